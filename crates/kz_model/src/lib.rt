@@ -1,0 +1,22 @@
+//! Plain data of the zone allocator, and the definitions that the contracts of all crates cite.
+#![tactic(auto)]
+
+mod bundle;
+mod laws;
+mod record;
+mod step;
+mod supply;
+mod text;
+mod words;
+
+pub use bundle::{Act, Bundle, Field, Kind, NameRow, OrderLine, Seed, TraceStep, TypeDecl};
+pub use laws::{
+    addresses_are_sequestered, agreement_decides, delays_change_nothing,
+    each_element_is_in_one_place, steps_without_a_visit_are_local,
+};
+pub use record::{Geometry, Layout, Plan, Record, Room, Visit, ZoneParams, ZoneRow};
+pub use sqlite_items::Items;
+pub use step::{Block, Bound, Reply, Step};
+pub use supply::{Answer, Ask, SupplyEntry};
+pub use text::{Name, Piece};
+pub use words::Words;
