@@ -1,0 +1,6 @@
+pub mod Streams
+pub mod Memory
+pub mod Input
+pub mod Lines
+pub mod Tokens
+pub mod Numbers
