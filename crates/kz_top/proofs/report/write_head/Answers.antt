@@ -1,0 +1,7 @@
+use Rattle.std.proofs.Common.{List, ℕ, ◌++◌, ap, ◌∙◌}
+use Rattle.std.specs.String.{string_bytes}
+use Rattle.kz_top.proofs.ReportText.{head_text, if_ok}
+use Rattle.kz_top.proofs.report.write_head.Goals as goal
+
+pub returns : goal.returns
+returns c = if_ok c.write.result _ _ (λ x e. e ∙ ap (λ (text : List ℕ). string_bytes c.args.out.now ++ text) (head_text c.args.name.now)) c.write.ensures.bytes

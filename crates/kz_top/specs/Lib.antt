@@ -1,0 +1,11 @@
+pub mod Form
+pub mod Said
+pub mod Survey
+pub mod Table
+pub mod Read
+pub mod OneZone
+pub mod OneStep
+pub mod Machine
+pub mod Lines
+pub mod Call
+pub mod Laws
