@@ -1,0 +1,7 @@
+pub mod Journal
+pub mod Views
+pub mod Rule
+pub mod Steps
+pub mod Passes
+pub mod Turns
+pub mod Nested
