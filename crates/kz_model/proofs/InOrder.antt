@@ -1,11 +1,10 @@
 -- The one equation for each block says what is said bullet by bullet, and the other way round.
-use Rattle.std.proofs.Common.{◌≡◌, ◌↔◌, ℕ, zero, suc, ◌+◌, ◌*◌, ◌<◌, ◌≤◌, ◌&&◌, Bool, true, false, nat_lt, List, [], length, refl, ap, ◌∙◌, arith}
+use Rattle.std.proofs.Common.{◌≡◌, ◌↔◌, ℕ, zero, suc, ◌*◌, ◌<◌, ◌≤◌, ◌&&◌, Bool, true, false, nat_lt, List, [], length, refl, ap, ◌∙◌, arith}
 use Rattle.std.specs.List.{All}
 use Rattle.std.proofs.lemmas.List.Elements.{All-weaker}
-use Rattle.kz_model.specs.declared.step.Block.{Block}
 use Rattle.kz_model.specs.declared.record.ZoneParams.{ZoneParams}
 use Rattle.kz_model.specs.Zone.{Chunk, Own, ZoneState, no_chunk, chunk_at}
-use Rattle.kz_model.specs.Whole.{one_if, places, due, AreWithin, IsChunk, IsOwn, IsWhole, IsInOrder}
+use Rattle.kz_model.specs.Whole.{one_if, places, AreWithin, IsOwn, IsWhole, IsInOrder}
 use Rattle.kz_model.proofs.Standing.{mapped_within}
 
 -- a block that is due has its chunk mapped and its index below count

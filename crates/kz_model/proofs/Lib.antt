@@ -1,4 +1,6 @@
 pub mod Rows
+pub mod ClassRows
+pub mod Classes
 pub mod OrderRows
 pub mod Courses
 pub mod Delays
@@ -23,3 +25,18 @@ pub mod Delayed
 pub mod LateSteps
 pub mod Parts
 pub mod InOrder
+pub mod Unions
+pub mod CoverRows
+pub mod ChunksApart
+pub mod Undelayed
+pub mod Alike
+pub mod OneZone
+pub mod OrderLines
+pub mod OrderRuns
+pub mod Printed
+pub mod DefaultOrder
+pub mod RunLogs
+pub mod ShareRows
+pub mod Shares
+pub mod SharesGrow
+pub mod SharesExist

@@ -1,11 +1,25 @@
 -- Laws over the definitions.
-use Rattle.std.specs.Prelude.{◌≡◌, ◌↔◌, ◌≢◌, ℕ, ◌+◌, ◌*◌, ◌<◌, ◌≤◌, false, map, List, [], Option, Some, None}
+use Rattle.std.specs.Prelude.{◌≡◌, ◌↔◌, ◌≢◌, ℕ, ◌+◌, ◌*◌, ◌<◌, ◌≤◌, false, map, List, [], length, slice_index, Option, Some, None}
+use Rattle.std.specs.List.{All, fold}
 use Rattle.std.specs.Option.{option_map_or}
 use Rattle.kz_model.specs.declared.step.Step.{Step}
 use Rattle.kz_model.specs.declared.step.Reply.{Reply}
 use Rattle.kz_model.specs.declared.supply.Ask.{Ask}
 use Rattle.kz_model.specs.declared.supply.Answer.{Answer}
 use Rattle.kz_model.specs.declared.record.ZoneParams.{ZoneParams}
+use Rattle.kz_model.specs.declared.supply.SupplyEntry.{SupplyEntry}
+use Rattle.kz_model.specs.declared.supply.Answer.TheVariants.{Base}
+use Rattle.kz_model.specs.declared.record.Visit.{Visit}
+use Rattle.kz_model.specs.Run.{IsRun}
+use Rattle.kz_model.specs.Addresses.{IsFit, IsLog, IsAddress, entry_at}
+use Rattle.kz_model.specs.Report.{bases}
+use Rattle.kz_model.specs.declared.bundle.Bundle.{Bundle}
+use Rattle.kz_model.specs.declared.bundle.OrderLine.{OrderLine}
+use Rattle.kz_model.specs.declared.record.Plan.{Plan}
+use Rattle.kz_model.specs.Journal.{params_of, zone_of_type}
+use Rattle.kz_model.specs.Order.{started, default_rounds, order_of, order_step, order_run}
+use Rattle.kz_model.specs.Undelayed.{AreNext, IsAlikeAt, IsSameAt, lines_at, places_at}
+use Rattle.kz_model.specs.Late.{AnswersAlike, answered_by, delayed_lines, settled_lines}
 use Rattle.kz_model.specs.Zone.{Shared, Own, ZoneState, opening, own_of}
 use Rattle.kz_model.specs.Whole.{IsWhole, IsInOrder, times_live}
 use Rattle.kz_model.specs.declared.step.Block.{Block}
@@ -97,6 +111,27 @@ StepsKeepWhole =
 abbrev pub GrantsApart : Type 0
 GrantsApart = (frames pages : ℕ) (asks : List Ask) → AreOfSubmaps asks → AreApart pages (ranges asks (supply_answers frames pages asks))
 
+-- An address is of one chunk, by the Base entry that granted its pages. No trim takes an entry away, so this holds before and after every trim.
+abbrev pub OneEntryAtAnAddress : Type 0
+OneEntryAtAnAddress =
+    (frames pages : ℕ) (params : ℕ → ZoneParams) (log : List SupplyEntry) → pages ≤ 4096 → IsLog frames pages params log →
+    (i j page other x : ℕ) (a b : Block) → (entry_at log i).answer ≡ Base page → (entry_at log j).answer ≡ Base other →
+    IsAddress (params (entry_at log i).zone) page a x → IsAddress (params (entry_at log j).zone) other b x → i ≡ j
+
+-- An address is of one chunk of one zone, where a zone's chunk begins at the page of its Base of the same number.
+abbrev pub OneChunkAtAnAddress : Type 0
+OneChunkAtAnAddress =
+    (frames pages : ℕ) (params : ℕ → ZoneParams) (log : List SupplyEntry) → pages ≤ 4096 → IsLog frames pages params log →
+    (y z x : ℕ) (a b : Block) → a.chunk < length (bases y log) → b.chunk < length (bases z log) →
+    IsAddress (params y) (slice_index (bases y log) a.chunk) a x → IsAddress (params z) (slice_index (bases z log) b.chunk) b x →
+    (y ≡ z) × (a.chunk ≡ b.chunk)
+
+-- the log of a run is such a log, where its zones are fit
+abbrev pub RunsHaveLogs : Type 0
+RunsHaveLogs =
+    (b : Bundle) (plan : Plan) (journals : List (List Visit)) (log : List SupplyEntry) → ((zone : ℕ) → zone < length plan.zones → IsFit (params_of b plan zone)) →
+    IsRun b plan journals log → IsLog b.frames b.pages (params_of b plan) log
+
 -- The zone alone under other names: the same replies and asks, and the same states under these names.
 abbrev pub NamesDecideNothing : Type 0
 NamesDecideNothing =
@@ -140,3 +175,34 @@ abbrev pub OthersGoOn : Type 0
 OthersGoOn =
     (p : ZoneParams) (state : ZoneState) (cpu : ℕ) (own : Own) (steps : List (ℕ × Step)) (answers : List Answer) → AreOfOthers cpu steps →
     course p (with_own state cpu own) steps answers ≡ option_map_or (λ (c : Course). Some (course_with cpu own c)) (course p state steps answers) None
+
+-- Lines of one zone in an order: after each, the undelayed zone is the delayed one with each CPU's late steps done, and each line so far has the same reply.
+abbrev pub AnsweredAlikeByLines : Type 0
+AnsweredAlikeByLines =
+    (p : ZoneParams) (lines : List (ℕ × Step)) (answers : List Answer) (undelayed : Course) → All (λ line. line.0 < p.cpus) lines → course p (opening p) lines answers ≡ Some undelayed →
+    let d = delayed_lines p answers lines in (delayed : Course) × AnswersAlike p lines d.made d.late answers undelayed delayed
+
+-- When all have settled, the zone is the same, and each line has the same reply at its place in what the visits made.
+abbrev pub AnsweredAlikeWhenSettled : Type 0
+AnsweredAlikeWhenSettled =
+    (p : ZoneParams) (lines : List (ℕ × Step)) (answers : List Answer) (undelayed : Course) → All (λ line. line.0 < p.cpus) lines → course p (opening p) lines answers ≡ Some undelayed →
+    let made = (settled_lines p answers lines).made in
+    (delayed : Course) × (course p (opening p) made answers ≡ Some delayed) × (undelayed.end ≡ delayed.end) × (undelayed.left ≡ delayed.left)
+    × ((cpu : ℕ) → cpu < p.cpus → answered_by cpu lines undelayed.replies ≡ answered_by cpu made delayed.replies)
+
+-- After each line of an order each zone is, but for the steps that are late, as if its lines had been done at once.
+abbrev pub OrderIsAlike : Type 0
+OrderIsAlike =
+    (b : Bundle) (plan : Plan) (lines : List OrderLine) (zone : ℕ) → zone < length plan.zones → AreNext b plan (started b plan) lines →
+    IsAlikeAt b plan (fold (order_step b plan) (started b plan) lines) zone (lines_at b plan zone (started b plan) lines)
+
+-- The run of an order answers each line as if it had been done at once.
+abbrev pub OrderRunIsSame : Type 0
+OrderRunIsSame =
+    (b : Bundle) (plan : Plan) (zone : ℕ) → zone < length plan.zones → AreNext b plan (started b plan) (order_of b) →
+    IsSameAt b plan (order_run b plan) zone (lines_at b plan zone (started b plan) (order_of b)) (places_at b plan zone (started b plan) (order_of b))
+
+-- In the default order each line is a CPU's next, where each type has a zone of the plan.
+abbrev pub DefaultOrderIsNext : Type 0
+DefaultOrderIsNext =
+    (b : Bundle) (plan : Plan) → ((of : ℕ) → zone_of_type plan of < length plan.zones) → AreNext b plan (started b plan) (default_rounds b 0 b.rounds)

@@ -1,5 +1,7 @@
 //! Laws over the definitions, each the contract of a function that does nothing.
-ghost use Rattle.kz_model.specs.Laws.{AsksNothing, IsLocal, StepsAlone, LeavesOthers, KeepsOthers, Commutes, OpensWhole, WholeIsInOrder, StepsKeepWhole, GrantsApart, NamesDecideNothing, OwnDecides, AgreedAreAlike, GrantedAgree, LiveOnce, OneBlockAtAnAddress, OthersGoOn};
+ghost use Rattle.kz_model.specs.Laws.{AsksNothing, IsLocal, StepsAlone, LeavesOthers, KeepsOthers, Commutes, OpensWhole, WholeIsInOrder, StepsKeepWhole, GrantsApart, NamesDecideNothing, OwnDecides, AgreedAreAlike, GrantedAgree, LiveOnce, OneBlockAtAnAddress, OneEntryAtAnAddress, OneChunkAtAnAddress, OthersGoOn, AnsweredAlikeByLines, AnsweredAlikeWhenSettled, OrderIsAlike, OrderRunIsSame, DefaultOrderIsNext, RunsHaveLogs};
+ghost use Rattle.kz_model.specs.ClassLaws.{ClassIsLeast, NoneIsAboveTheLast, PagesAreLeast, ClassesFit};
+ghost use Rattle.kz_model.specs.ShareLaws.{SharesAreWithin, SharesSpend, SharesAreFairest, OneForEach, OneMoreForNext, RestIsUnused};
 
 /// A step that needs no visit asks nothing, and its effect depends on what its CPU has alone.
 pub fn steps_without_a_visit_are_local()
@@ -25,9 +27,12 @@ pub fn each_element_is_in_one_place()
     ensures addresses { OneBlockAtAnAddress }
 {}
 
-/// No page is granted twice.
+/// No page is granted twice, and no address is of two chunks.
 pub fn addresses_are_sequestered()
-    ensures { GrantsApart }
+    ensures pages { GrantsApart }
+    ensures addresses { OneEntryAtAnAddress }
+    ensures chunks { OneChunkAtAnAddress }
+    ensures runs { RunsHaveLogs }
 {}
 
 /// Neither the numbers of names nor the pages of answers decide anything.
@@ -36,4 +41,31 @@ pub fn agreement_decides()
     ensures own { OwnDecides }
     ensures alike { AgreedAreAlike }
     ensures granted { GrantedAgree }
+{}
+
+/// Lines that are delayed until their CPU's next visit to the zone are answered as they would be at once.
+pub fn delayed_runs_answer_alike()
+    ensures lines { AnsweredAlikeByLines }
+    ensures settled { AnsweredAlikeWhenSettled }
+    ensures order { OrderIsAlike }
+    ensures run { OrderRunIsSame }
+    ensures default { DefaultOrderIsNext }
+{}
+
+/// The class of a size is the least that holds it, and its chunk has the least pages.
+pub fn classes_are_least()
+    ensures class { ClassIsLeast }
+    ensures none { NoneIsAboveTheLast }
+    ensures pages { PagesAreLeast }
+    ensures fit { ClassesFit }
+{}
+
+/// A budget is divided as fairly as it can be, and its zones are given one after another.
+pub fn shares_are_fair()
+    ensures within { SharesAreWithin }
+    ensures spent { SharesSpend }
+    ensures fairest { SharesAreFairest }
+    ensures begins { OneForEach }
+    ensures grows { OneMoreForNext }
+    ensures ends { RestIsUnused }
 {}

@@ -3,6 +3,7 @@
 
 mod bundle;
 mod laws;
+mod layout;
 mod record;
 mod step;
 mod supply;
@@ -11,9 +12,11 @@ mod words;
 
 pub use bundle::{Act, Bundle, Field, Kind, NameRow, OrderLine, Seed, TraceStep, TypeDecl};
 pub use laws::{
-    addresses_are_sequestered, agreement_decides, delays_change_nothing,
-    each_element_is_in_one_place, steps_without_a_visit_are_local,
+    addresses_are_sequestered, agreement_decides, classes_are_least, delayed_runs_answer_alike,
+    delays_change_nothing, each_element_is_in_one_place, shares_are_fair,
+    steps_without_a_visit_are_local,
 };
+pub use layout::{LayoutCause, LayoutFault};
 pub use record::{Geometry, Layout, Plan, Record, Room, Visit, ZoneParams, ZoneRow};
 pub use sqlite_items::Items;
 pub use step::{Block, Bound, Reply, Step};
