@@ -1,0 +1,4 @@
+mod Overs
+mod Tables
+mod Walks
+mod Granules

@@ -1,0 +1,14 @@
+//! The layouts of declared types: sizes, alignments, and the letters of what covers their granules.
+#![tactic(auto)]
+
+mod body;
+mod braces;
+mod letters;
+mod over;
+mod places;
+#[cfg(test)]
+mod tests;
+mod types;
+
+pub use kz_model::{LayoutCause, LayoutFault};
+pub use types::layouts;
