@@ -14,8 +14,3 @@ pub record IsBody (size align : ℕ) (cover : List ℕ) : Type 0 where
 abbrev pub Gives : {A : Type 0} → Result A LayoutCause → Result A LayoutCause → Type 0
 Gives (Ok a) given = given ≡ Ok a
 Gives (Err cause) given = cause ≢ Memory → given ≡ Err cause
-
--- what was changed is what the definition gives, unless memory ran out
-abbrev pub Becomes : {A : Type 0} → Result (Unit {0}) LayoutCause → A → Result A LayoutCause → Type 0
-Becomes (Ok u) new given = given ≡ Ok new
-Becomes (Err cause) new given = cause ≢ Memory → given ≡ Err cause

@@ -3,6 +3,7 @@ ghost use Rattle.std.specs.Prelude.{◌≡◌, ◌≤◌, ◌<◌, ℕ, All, fal
 ghost use Rattle.kz_model.specs.Cover.{nothing_covered};
 ghost use Rattle.kz_model.specs.Layouts.{Inside, no_fields, whole as whole_by_fields, own_cover, inner_of as inner_by_kind, fields_from, IsSoundKind, IsSoundField};
 ghost use Rattle.kz_layout.specs.Gives.{Gives};
+ghost use Rattle.kz_layout.specs.Shown.{Shows, GivesInner, types_at, with_own};
 
 use crate::body::Body;
 use crate::places::Places;
@@ -22,8 +23,6 @@ pub struct Inner {
     pub body: Body,
     pub has_fields: bool,
 }
-
-ghost use Rattle.kz_layout.specs.Shown.{Shows, GivesInner, types_at, with_own};
 
 /// Braces that hold a field, as a whole.
 pub fn whole(inner: Inner) -> Result<Body, LayoutCause>
