@@ -40,3 +40,6 @@ pub mod ShareRows
 pub mod Shares
 pub mod SharesGrow
 pub mod SharesExist
+mod ReadingRows
+pub mod Shorts
+pub mod PlanRows

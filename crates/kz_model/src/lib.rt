@@ -2,15 +2,19 @@
 #![tactic(auto)]
 
 mod bundle;
+mod grammar;
 mod laws;
 mod layout;
 mod record;
+mod short;
 mod step;
 mod supply;
 mod text;
+mod type_lines;
 mod words;
 
 pub use bundle::{Act, Bundle, Field, Kind, NameRow, OrderLine, Seed, TraceStep, TypeDecl};
+pub use grammar::{Cause, Counted, Header, Mark, Place, Refusal};
 pub use laws::{
     addresses_are_sequestered, agreement_decides, classes_are_least, delayed_runs_answer_alike,
     delays_change_nothing, each_element_is_in_one_place, shares_are_fair,
@@ -18,8 +22,10 @@ pub use laws::{
 };
 pub use layout::{LayoutCause, LayoutFault};
 pub use record::{Geometry, Layout, Plan, Record, Room, Visit, ZoneParams, ZoneRow};
+pub use short::Trace;
 pub use sqlite_items::Items;
 pub use step::{Block, Bound, Reply, Step};
 pub use supply::{Answer, Ask, SupplyEntry};
 pub use text::{Name, Piece};
+pub use type_lines::Types;
 pub use words::Words;
