@@ -1,4 +1,5 @@
 mod Overs
 mod Tables
 mod Walks
-mod Granules
+mod Unions
+mod Bodies

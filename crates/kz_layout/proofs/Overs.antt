@@ -1,11 +1,10 @@
--- Laws of covers over one another.
+-- Laws of covers, and of codes, over one another.
 use Rattle.std.proofs.Common.{◌≡◌, ℕ, zero, suc, ◌+◌, ◌-◌, ◌*◌, ◌≤◌, ◌<◌, List, [], ◌∷◌, ◌++◌, length, replicate, take, max, refl, sym, ap, ◌∙◌, arith}
 use Rattle.std.proofs.Math.ListN.{get_or, set}
 use Rattle.std.specs.Int.Bits.{bit_or, or_zero_r}
 use Rattle.std.specs.List.{repeat}
-use Rattle.std.proofs.lemmas.List.{append-nil, append_assoc, take_more, length-append, length-replicate, length-take-le, take_all}
-use Rattle.kz_model.specs.Cover.{Covered, over, at_offset, round_up, rounded}
-use Rattle.kz_layout.specs.Gives.{IsBody}
+use Rattle.std.proofs.lemmas.List.{append-nil, append_assoc, take_more, length-append, length-replicate, length-take-le}
+use Rattle.kz_model.specs.Cover.{over, at_offset, round_up}
 
 pub over-nil : (xs : List ℕ) → over xs [] ≡ xs
 over-nil [] = refl
@@ -29,10 +28,6 @@ over-past (x ∷ xs) ys (suc n) h =
     let same : n - length xs ≡ suc n - suc (length xs) = omega arith in
     rw (or_zero_r x) (ap (λ us. x ∷ us) (over-past xs ys n (omega arith)) ∙ ap (λ k. x ∷ (xs ++ (replicate k 0 ++ ys))) same)
 
-pub over-pad : (xs : List ℕ) (n : ℕ) → length xs ≤ n → over xs (replicate n 0) ≡ xs ++ replicate (n - length xs) 0
-over-pad xs n h =
-    ap (over xs) (sym (append-nil (replicate n 0))) ∙ over-past xs [] n h ∙ ap (λ us. xs ++ us) (append-nil (replicate (n - length xs) 0))
-
 pub over-at : (xs : List ℕ) (n b d : ℕ) → n < length xs → over xs (replicate n 0 ++ b ∷ []) ≡ set xs n (bit_or (get_or xs n d) b)
 over-at [] n b d h = absurd (omega arith)
 over-at (x ∷ xs) zero b d h = ap (λ us. bit_or x b ∷ us) (over-nil xs)
@@ -54,11 +49,11 @@ repeat-suc (suc n) xs = ap (λ us. xs ++ us) (repeat-suc n xs) ∙ sym (append_a
 repeat_more : (n : ℕ) (xs : List ℕ) → repeat (n + 1) xs ≡ repeat n xs ++ xs
 repeat_more n xs = let next : n + 1 ≡ suc n = omega arith in ap (λ k. repeat k xs) next ∙ repeat-suc n xs
 
-length-at_offset : (offset n : ℕ) (xs : List ℕ) → length (at_offset offset n xs) ≡ offset + n * length xs
+pub length-at_offset : (offset n : ℕ) (xs : List ℕ) → length (at_offset offset n xs) ≡ offset + n * length xs
 length-at_offset offset n xs = simp (length-append, length-replicate, length-repeat) refl
 
--- one byte more of a part that begins here
-pub laid_more : (start part : List ℕ) (from i d : ℕ) → i < length part →
+-- one set more of a part that begins here
+laid_more : (start part : List ℕ) (from i d : ℕ) → i < length part →
     over start (replicate from 0 ++ take (i + 1) part) ≡ over (over start (replicate from 0 ++ take i part)) (replicate (from + i) 0 ++ get_or part i d ∷ [])
 laid_more start part from i d h =
     let whole : replicate from 0 ++ take (i + 1) part ≡ (replicate from 0 ++ take i part) ++ get_or part i d ∷ [] =
@@ -67,11 +62,11 @@ laid_more start part from i d h =
     ap (over start) whole ∙ over-append start (replicate from 0 ++ take i part) (get_or part i d ∷ []) ∙
     ap (λ n. over (over start (replicate from 0 ++ take i part)) (replicate n 0 ++ get_or part i d ∷ [])) long
 
--- no byte yet
+-- none yet
 pub laid_none : (start : List ℕ) (from : ℕ) → from ≤ length start → start ≡ over start (replicate from 0 ++ [])
 laid_none start from h = sym (ap (over start) (append-nil (replicate from 0)) ∙ over-zeros start from h)
 
--- it falls on a byte that is there
+-- it falls on one that is there
 pub laid_inside : (start cover part : List ℕ) (from i d e : ℕ) → cover ≡ over start (replicate from 0 ++ take i part) → i < length part → from + i < length cover →
     set cover (from + i) (bit_or (get_or cover (from + i) d) (get_or part i e)) ≡ over start (replicate from 0 ++ take (i + 1) part)
 laid_inside start cover part from i d e is h within =
@@ -97,48 +92,7 @@ laid_again start cover part offset i is =
 pub le-round_up : (n align : ℕ) → 1 ≤ align → n ≤ round_up n align
 le-round_up n align h = omega arith
 
-pub round_up-lt : (n align : ℕ) → 1 ≤ align → round_up n align < n + align
-round_up-lt n align h = omega arith
-
--- the padding of a body
-pub padded : (cover : List ℕ) (size align : ℕ) → length cover ≡ size → 1 ≤ align →
-    take (round_up size align) cover ++ replicate (round_up size align - length cover) 0 ≡ over cover (replicate (round_up size align) 0)
-padded cover size align long h =
-    let up = le-round_up size align h in
-    ap (λ us. us ++ replicate (round_up size align - length cover) 0) (take_all (round_up size align) cover (omega arith)) ∙ sym (over-pad cover (round_up size align) (omega arith))
-
--- a part behind the cover, past bytes that nothing covers
-pub laid_behind : (start : List ℕ) (offset m : ℕ) → m ≡ length start → m ≤ offset → take offset start ++ replicate (offset - m) 0 ≡ over start (replicate offset 0 ++ [])
-laid_behind start offset m long h =
-    let fewer : offset - m ≡ offset - length start = ap (λ k. offset - k) long in
-    ap (λ k. take offset start ++ replicate k 0) fewer ∙
-    ap (λ us. us ++ replicate (offset - length start) 0) (take_all offset start (omega arith)) ∙ sym (over-pad start offset (omega arith)) ∙ ap (over start) (sym (append-nil (replicate offset 0)))
-
 -- how long it is then
 pub length-over_copy : (start part : List ℕ) (from : ℕ) → from + length part ≤ length (over start (replicate from 0 ++ part))
 length-over_copy start part from =
     omega (arith, length-over start (replicate from 0 ++ part), length-append (replicate from 0) part, length-replicate {A = ℕ} from 0)
-
--- a body whose size is rounded up
-pub is_rounded : (inside : Covered) (n m : ℕ) (items : List ℕ) (body : Covered) → IsBody inside.size inside.align inside.cover → inside ≡ body →
-    n ≡ round_up inside.size inside.align → m ≡ length inside.cover → items ≡ take n inside.cover ++ replicate (n - m) 0 →
-    record { size = n; align = inside.align; cover = items } ≡ rounded body
-is_rounded inside n m items body ok same up long laid =
-    let pad = padded inside.cover inside.size inside.align ok.covered ok.aligned in
-    let R : ℕ → List ℕ → Covered = λ k us. record { size = k; align = inside.align; cover = us } in
-    let cover : items ≡ over inside.cover (replicate (round_up inside.size inside.align) 0) = laid ∙ rw (up, long) pad in
-    ap (λ k. R k items) up ∙ ap (R (round_up inside.size inside.align)) cover ∙ ap rounded same
-
--- a body with one field more
-pub is_body : (inside part : Covered) (size align offset count : ℕ) (items : List ℕ) → IsBody inside.size inside.align inside.cover → IsBody part.size part.align part.cover →
-    inside.size ≤ 8192 → offset + count * part.size ≤ 8192 → items ≡ over inside.cover (at_offset offset count part.cover) →
-    size ≡ max inside.size (offset + count * part.size) → align ≡ max inside.align part.align → IsBody size align items
-is_body inside part size align offset count items ok fine small end laid sized aligned = record {
-  small = omega arith;
-  aligned = omega (arith, ok.aligned);
-  low = omega (arith, ok.low, fine.low);
-  covered =
-      let long : length items ≡ max (length inside.cover) (offset + count * length part.cover) =
-      ap length laid ∙ length-over inside.cover (at_offset offset count part.cover) ∙ ap (max (length inside.cover)) (length-at_offset offset count part.cover) in
-      long ∙ ap (λ n. max n (offset + count * length part.cover)) ok.covered ∙ ap (λ n. max inside.size (offset + count * n)) fine.covered ∙ sym sized;
-}

@@ -14,10 +14,9 @@ use Rattle.std.specs.BTreeSet.{BTreeSet}
 use Rattle.std.specs.Cmp.Lexicographic.{slice_cmp}
 use Rattle.std.specs.Ordering.{nat_cmp}
 use Rattle.std.specs.List.{position_from}
-use Rattle.kz_model.specs.declared.bundle.TypeDecl.{TypeDecl}
 use Rattle.kz_model.specs.declared.bundle.Field.{Field}
-use Rattle.kz_model.specs.Layouts.{Text, is, has, place_of, names_of}
-use Rattle.kz_layout.specs.Tables.{ArePlaces, AreNames}
+use Rattle.kz_model.specs.Layouts.{Text, is, has, place_of}
+use Rattle.kz_layout.specs.Tables.{ArePlaces, AreNames, texts}
 use Rattle.kz_layout.specs.Shown.{field_names}
 
 flip : (a b : Text) → is a b ≡ is b a
@@ -102,10 +101,10 @@ names_added m n names name are puts q =
     after ∙ ap (λ t. cond t true (holds m q)) (flip name q) ∙ ap (cond (is q name) true) (are q) ∙ or_last (is q name) (has q names)
     ∙ sym (list_any-append (is q) names (name ∷ []))
 
--- the names of one declaration more
-pub names_more : (decls : List TypeDecl) (i : ℕ) (d : TypeDecl) → i < length decls →
-    names_of (take (i + 1) decls) ≡ names_of (take i decls) ++ (get_or decls i d).name ∷ []
-names_more decls i d h = ap names_of (take_more decls i d h) ∙ map-append (λ decl. decl.name) (take i decls) (get_or decls i d ∷ [])
+-- one borrowed name more
+pub texts_more : (names : List (Bor (List ℕ))) (i : ℕ) (d : Bor (List ℕ)) → i < length names →
+    texts (take (i + 1) names) ≡ texts (take i names) ++ (get_or names i d).now ∷ []
+texts_more names i d h = ap texts (take_more names i d h) ∙ map-append (λ name. name.now) (take i names) (get_or names i d ∷ [])
 
 -- the names of one field more
 pub field_names_more : (fields : List Field) (i : ℕ) (d : Field) → i < length fields →
@@ -115,3 +114,7 @@ field_names_more fields i d h = ap field_names (take_more fields i d h) ∙ map-
 pub not_seen : (new found : Bool) → new ≡ not found → new ≡ true → found ≡ false
 not_seen new true added is_new = cc
 not_seen new false added is_new = refl
+
+pub was_seen : (new found : Bool) → new ≡ not found → new ≡ false → found ≡ true
+was_seen new true added is_old = refl
+was_seen new false added is_old = cc

@@ -1,3 +1,5 @@
 pub mod Gives
 pub mod Tables
 pub mod Shown
+pub mod Granules
+pub mod Laid

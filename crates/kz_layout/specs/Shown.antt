@@ -1,16 +1,15 @@
 -- What the fields of some braces are in the code.
-use Rattle.std.specs.Prelude.{◌≡◌, ◌≢◌, ℕ, Bool, nat_lt, List, length, map, Result, Ok, Err}
+use Rattle.std.specs.Prelude.{◌≡◌, ◌==◌, ℕ, Bool, List, length, map, Result}
 use Rattle.kz_model.specs.declared.bundle.Field.{Field}
 use Rattle.kz_model.specs.declared.layout.LayoutCause.{LayoutCause}
-use Rattle.kz_model.specs.declared.layout.LayoutCause.TheVariants.{Memory}
 use Rattle.kz_model.specs.Cover.{Covered}
 use Rattle.kz_model.specs.Layouts.{Inside, Types, Text, then_do, with_cover}
-use Rattle.kz_layout.specs.declared.braces.Inner.{Inner}
+use Rattle.kz_layout.specs.Granules.{Granules, Stands}
 
--- the same body, and whether there is a field
-pub record Shows (inner : Inner) (inside : Inside) : Type 0 where
-  pub body : inside.body ≡ inner.body
-  pub fields : inner.has_fields ≡ nat_lt 0 (length inside.names)
+-- the fields have the codes of the cover, and a byte where there is a field
+pub record Shows (fields : Granules) (inside : Inside) : Type 0 where
+  pub stands : Stands fields inside.body
+  pub empty : (length inside.names == 0) ≡ (fields.size == 0)
 
 abbrev pub types_at : List Text → List Covered → Types
 types_at names earlier = record { names = names; earlier = earlier }
@@ -21,8 +20,3 @@ field_names fields = map (λ f. f.name) fields
 -- these fields with one more, once its own cover is known
 abbrev pub with_own : Bool → Covered → ℕ → Result Covered LayoutCause → Result Covered LayoutCause
 with_own in_union body count own = then_do own (with_cover in_union body count)
-
--- the fields are what the definition gives, unless memory ran out
-abbrev pub GivesInner : Result Inner LayoutCause → Result Inside LayoutCause → Type 0
-GivesInner (Ok inner) given = (inside : Inside) × (given ≡ Ok inside) × Shows inner inside
-GivesInner (Err cause) given = cause ≢ Memory → given ≡ Err cause

@@ -1,52 +1,37 @@
 //! The fields in some braces, one after the other.
-ghost use Rattle.std.specs.Prelude.{◌≡◌, ◌≤◌, ◌<◌, ℕ, All, false, length, IfOk};
-ghost use Rattle.kz_model.specs.Cover.{nothing_covered};
+ghost use Rattle.std.specs.Prelude.{◌≤◌, ℕ, All, List, IfOk};
+ghost use Rattle.kz_model.specs.Cover.{Covered};
 ghost use Rattle.kz_model.specs.Layouts.{Inside, no_fields, whole as whole_by_fields, own_cover, inner_of as inner_by_kind, fields_from, IsSoundKind, IsSoundField};
 ghost use Rattle.kz_layout.specs.Gives.{Gives};
-ghost use Rattle.kz_layout.specs.Shown.{Shows, GivesInner, types_at, with_own};
+ghost use Rattle.kz_layout.specs.Granules.{AllStand, Stands};
+ghost use Rattle.kz_layout.specs.Shown.{Shows, types_at, with_own};
 
-use crate::body::Body;
+use crate::body::{AUTHENTICATED, Body, DATA, Fields, POINTER};
 use crate::places::Places;
 use kz_model::{Field, Kind, LayoutCause};
 use std::alloc::Global;
 use std::collections::BTreeSet;
 
-const POINTER: u8 = 1;
-
-const DATA: u8 = 2;
-
-const AUTHENTICATED: u8 = 8;
-
-/// The fields of some braces.
-#[derive(Drop)]
-pub struct Inner {
-    pub body: Body,
-    pub has_fields: bool,
-}
-
 /// Braces that hold a field, as a whole.
-pub fn whole(inner: Inner) -> Result<Body, LayoutCause>
-    requires { inner.body.size ≤ 8192 }
-    ensures { (inside : Inside) → Shows inner inside → Gives result (whole_by_fields inside) }
+pub fn whole(fields: Fields) -> Result<Body, LayoutCause>
+    ensures { (inside : Inside) → Shows fields inside → Gives Stands result (whole_by_fields inside) }
 {
-    let Inner { body, has_fields } = inner;
-    if !has_fields {
+    if fields.is_empty() {
         return Err(LayoutCause::Empty);
     }
-    Ok(body.rounded()?)
+    Ok(fields.rounded())
 }
 
 /// What a kind is by itself; `inner` are a union's fields.
-fn own_body<'a>(
+fn own_body(
     alloc: Global,
-    names: &Places<'a>,
+    names: &Places<'_>,
     earlier: &[Body],
-    kind: &'a Kind,
-    inner: Inner,
+    kind: &Kind,
+    inner: Fields,
 ) -> Result<Body, LayoutCause>
-    requires small { inner.body.size ≤ 8192 }
     requires sound { (deep : ℕ) × IsSoundKind deep kind.now }
-    ensures { (inside : Inside) → Shows inner inside → Gives result (own_cover (types_at names.now earlier.now) inside kind.now) }
+    ensures { (covers : List Covered) (inside : Inside) → AllStand earlier.now covers → Shows inner inside → Gives Stands result (own_cover (types_at names.now covers) inside kind.now) }
 {
     match kind {
         Kind::Ptr => Ok(Body::plain(alloc, 8, 8, POINTER)?),
@@ -56,7 +41,7 @@ fn own_body<'a>(
         Kind::U32 => Ok(Body::plain(alloc, 4, 4, DATA)?),
         Kind::U64 => Ok(Body::plain(alloc, 8, 8, DATA)?),
         Kind::Bytes { size } => Ok(Body::plain(alloc, *size, 1, DATA)?),
-        Kind::Struct { of } => match names.place(of) {
+        Kind::Struct { of } => match names.place(of.as_slice()) {
             None => Err(LayoutCause::UnknownType),
             Some(place) => match earlier.get(place as usize) {
                 None => Err(LayoutCause::ForwardUse),
@@ -67,76 +52,62 @@ fn own_body<'a>(
     }
 }
 
-/// These fields with one more.
-fn with_one<'a>(
+/// These fields with one more; `inner` are its union's fields.
+fn with_one(
     alloc: Global,
-    names: &Places<'a>,
+    names: &Places<'_>,
     earlier: &[Body],
     in_union: bool,
-    body: Body,
-    field: &'a Field,
-    inner: Inner,
-) -> Result<Body, LayoutCause>
-    requires small { body.size ≤ 8192 }
-    requires small_inner { inner.body.size ≤ 8192 }
+    fields: Fields,
+    field: &Field,
+    inner: Fields,
+) -> Result<Fields, LayoutCause>
     requires sound { (deep : ℕ) × IsSoundField deep field.now }
-    ensures gives { (inside : Inside) → Shows inner inside → Gives result (with_own in_union body field.now.count (own_cover (types_at names.now earlier.now) inside field.now.kind)) }
-    ensures small_again { IfOk result (λ b. b.size ≤ 8192) }
+    ensures gives { (covers : List Covered) (inside : Inside) (before : Covered) → AllStand earlier.now covers → Shows inner inside → Stands fields before → Gives Stands result (with_own in_union before field.now.count (own_cover (types_at names.now covers) inside field.now.kind)) }
+    ensures some { IfOk result (λ more. 1 ≤ more.size) }
 {
     let part = own_body(alloc, names, earlier, &field.kind, inner)?;
-    body.with_field(in_union, field.count, &part)
-}
-
-fn no_inner(alloc: Global) -> Inner
-    ensures body { result.body ≡ nothing_covered }
-    ensures fields { result.has_fields ≡ false }
-{
-    Inner {
-        body: Body::new(alloc),
-        has_fields: false,
-    }
+    fields.with_field(in_union, field.count, &part)
 }
 
 /// The fields of a union; another kind has none.
 #[cycle(fields)]
-fn inner_of<'a>(
+fn inner_of(
     alloc: Global,
-    names: &Places<'a>,
+    names: &Places<'_>,
     earlier: &[Body],
-    kind: &'a Kind,
-) -> Result<Inner, LayoutCause>
+    kind: &Kind,
+) -> Result<Fields, LayoutCause>
     requires { (deep : ℕ) × IsSoundKind deep kind.now }
-    ensures gives { GivesInner result (inner_by_kind (types_at names.now earlier.now) kind.now) }
-    ensures small { IfOk result (λ inner. inner.body.size ≤ 8192) }
+    ensures { (covers : List Covered) → AllStand earlier.now covers → Gives Shows result (inner_by_kind (types_at names.now covers) kind.now) }
 {
     match kind {
         Kind::Union { fields } => { fields_of(alloc, names, earlier, true, fields.as_slice()) }
-        Kind::Ptr => Ok(no_inner(alloc)),
-        Kind::Auth => Ok(no_inner(alloc)),
-        Kind::U8 => Ok(no_inner(alloc)),
-        Kind::U16 => Ok(no_inner(alloc)),
-        Kind::U32 => Ok(no_inner(alloc)),
-        Kind::U64 => Ok(no_inner(alloc)),
-        Kind::Bytes { .. } => Ok(no_inner(alloc)),
-        Kind::Struct { .. } => Ok(no_inner(alloc)),
+        Kind::Ptr => Ok(Fields::new(alloc)),
+        Kind::Auth => Ok(Fields::new(alloc)),
+        Kind::U8 => Ok(Fields::new(alloc)),
+        Kind::U16 => Ok(Fields::new(alloc)),
+        Kind::U32 => Ok(Fields::new(alloc)),
+        Kind::U64 => Ok(Fields::new(alloc)),
+        Kind::Bytes { .. } => Ok(Fields::new(alloc)),
+        Kind::Struct { .. } => Ok(Fields::new(alloc)),
     }
 }
 
 /// The fields in some braces.
 #[cycle(fields)]
-pub fn fields_of<'a>(
+pub fn fields_of(
     alloc: Global,
-    names: &Places<'a>,
+    names: &Places<'_>,
     earlier: &[Body],
     in_union: bool,
-    fields: &'a [Field],
-) -> Result<Inner, LayoutCause>
+    fields: &[Field],
+) -> Result<Fields, LayoutCause>
     requires { (deep : ℕ) × All (IsSoundField deep) fields.now }
-    ensures gives { GivesInner result (fields_from (types_at names.now earlier.now) in_union no_fields fields.now) }
-    ensures small { IfOk result (λ inner. inner.body.size ≤ 8192) }
+    ensures { (covers : List Covered) → AllStand earlier.now covers → Gives Shows result (fields_from (types_at names.now covers) in_union no_fields fields.now) }
 {
     let mut seen = BTreeSet::new(alloc);
-    let mut body = Body::new(alloc);
+    let mut so_far = Fields::new(alloc);
     for field in fields {
         let inner = inner_of(alloc, names, earlier, &field.kind)?;
         let Ok(is_new) = seen.insert(field.name.as_slice()) else {
@@ -145,10 +116,7 @@ pub fn fields_of<'a>(
         if !is_new {
             return Err(LayoutCause::SameName);
         }
-        body = with_one(alloc, names, earlier, in_union, body, field, inner)?;
+        so_far = with_one(alloc, names, earlier, in_union, so_far, field, inner)?;
     }
-    Ok(Inner {
-        body,
-        has_fields: !fields.is_empty(),
-    })
+    Ok(so_far)
 }

@@ -3,6 +3,7 @@
 
 mod body;
 mod braces;
+mod layouter;
 mod letters;
 mod over;
 mod places;
@@ -11,4 +12,6 @@ mod tests;
 mod types;
 
 pub use kz_model::{LayoutCause, LayoutFault};
+pub use layouter::Layouter;
+pub use places::Places;
 pub use types::layouts;

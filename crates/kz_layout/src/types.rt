@@ -1,33 +1,12 @@
 //! The layouts of declarations.
-ghost use Rattle.std.specs.Prelude.{◌≡◌, ◌≢◌, ◌≤◌, ℕ, All, Ok, Err, [], map, length, IfOk, IfErr};
-ghost use Rattle.kz_model.specs.Cover.{layout_of as layout_by_cover};
-ghost use Rattle.kz_model.specs.Layouts.{layouts_of, names_of, types_from, type_cover, AreInRange, IsSoundField};
-ghost use Rattle.kz_layout.specs.Gives.{Gives};
-ghost use Rattle.kz_layout.specs.Shown.{types_at};
+ghost use Rattle.std.specs.Prelude.{◌≡◌, ◌≢◌, All, Ok, Err, IfOk, IfErr};
+ghost use Rattle.kz_model.specs.Layouts.{layouts_of, names_of, AreInRange};
+ghost use Rattle.kz_layout.specs.Laid.{IsSize};
+ghost use Rattle.kz_layout.specs.Tables.{texts};
 
-use crate::body::{Body, layout_of};
-use crate::braces::{fields_of, whole};
-use crate::places::Places;
+use crate::layouter::Layouter;
 use kz_model::{Layout, LayoutCause, LayoutFault, TypeDecl};
 use std::alloc::{AllocError, Global};
-
-/// The body of the declaration that follows the earlier ones.
-fn type_body<'a>(
-    alloc: Global,
-    names: &Places<'a>,
-    earlier: &[Body],
-    decl: &'a TypeDecl,
-) -> Result<Body, LayoutCause>
-    requires { All (IsSoundField 8) decl.now.fields }
-    ensures { Gives result (type_cover (types_at names.now earlier.now) decl.now) }
-{
-    if let Some(place) = names.place(&decl.name) {
-        if (place as usize) < earlier.len() {
-            return Err(LayoutCause::SameName);
-        }
-    }
-    whole(fields_of(alloc, names, earlier, false, decl.fields.as_slice())?)
-}
 
 /// A fault of the declaration at this place; want of memory has none.
 fn fault_at(at: u32, cause: LayoutCause) -> LayoutFault
@@ -41,56 +20,48 @@ fn fault_at(at: u32, cause: LayoutCause) -> LayoutFault
     }
 }
 
-fn layouts_of_all(alloc: Global, bodies: &[Body]) -> Result<Vec<Layout>, AllocError>
-    ensures { IfOk result (λ v. v.items ≡ map layout_by_cover bodies.now) }
+fn no_memory() -> LayoutFault
+    ensures at { result.at ≡ 0 }
+    ensures cause { result.cause ≡ LayoutCause.Memory }
 {
-    let mut layouts = Vec::new(alloc);
-    for body in bodies {
-        layouts.push(layout_of(alloc, body)?)?;
+    LayoutFault {
+        at: 0,
+        cause: LayoutCause::Memory,
     }
-    Ok(layouts)
 }
 
-/// The bodies of these types, in their order.
-fn bodies_of<'a>(
-    alloc: Global,
-    names: &Places<'a>,
-    types: &'a [TypeDecl],
-) -> Result<Vec<Body>, LayoutFault>
-    requires named { names.now ≡ names_of types.now }
-    requires range { AreInRange types.now }
-    ensures ok { IfOk result (λ all. types_from (types_at names.now []) types.now ≡ Ok all.items) }
-    ensures fault { IfErr result (λ f. f.cause ≢ LayoutCause.Memory → types_from (types_at names.now []) types.now ≡ Err f) }
-    ensures memory { IfErr result (λ f. f.cause ≡ LayoutCause.Memory → f.at ≡ 0) }
+fn type_names(alloc: Global, types: &[TypeDecl]) -> Result<Vec<&[u8]>, AllocError>
+    ensures { IfOk result (λ v. texts v.items ≡ names_of types.now) }
 {
-    let mut earlier = Vec::new(alloc);
-    for (at, decl) in types.iter().enumerate() {
-        match type_body(alloc, names, earlier.as_slice(), decl) {
-            Err(cause) => return Err(fault_at(at as u32, cause)),
-            Ok(body) => {
-                if earlier.push(body).is_err() {
-                    return Err(fault_at(0, LayoutCause::Memory));
-                }
-            }
-        }
+    let mut names = Vec::new(alloc);
+    for decl in types {
+        names.push(decl.name.as_slice())?;
     }
-    Ok(earlier)
+    Ok(names)
 }
 
 /// The layouts of these types, in their order.
 pub fn layouts(alloc: Global, types: &[TypeDecl]) -> Result<Vec<Layout>, LayoutFault>
     requires { AreInRange types.now }
     ensures ok { IfOk result (λ all. layouts_of types.now ≡ Ok all.items) }
+    ensures sizes { IfOk result (λ all. All IsSize all.items) }
     // The first fault, with its place; want of memory may be answered instead.
     ensures fault { IfErr result (λ f. f.cause ≢ LayoutCause.Memory → layouts_of types.now ≡ Err f) }
     ensures memory { IfErr result (λ f. f.cause ≡ LayoutCause.Memory → f.at ≡ 0) }
 {
-    let Ok(names) = Places::of(alloc, types) else {
-        return Err(fault_at(0, LayoutCause::Memory));
+    let Ok(names) = type_names(alloc, types) else {
+        return Err(no_memory());
     };
-    let bodies = bodies_of(alloc, &names, types)?;
-    match layouts_of_all(alloc, bodies.as_slice()) {
-        Err(_) => Err(fault_at(0, LayoutCause::Memory)),
-        Ok(layouts) => Ok(layouts),
+    let Ok(mut layouter) = Layouter::new(alloc, names) else {
+        return Err(no_memory());
+    };
+    for (at, decl) in types.iter().enumerate() {
+        if let Err(cause) = layouter.add(decl) {
+            return Err(fault_at(at as u32, cause));
+        }
     }
+    let Ok(layouts) = layouter.finish(alloc) else {
+        return Err(no_memory());
+    };
+    Ok(layouts)
 }

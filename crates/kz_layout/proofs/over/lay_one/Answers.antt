@@ -10,11 +10,11 @@ loop-i-init c = record { laid = laid_none _ _ c.requires.within; within = omega 
 pub loop-i-preserved : goal.loop-i-preserved
 loop-i-preserved c = elim c.if-at-len.branch [
   | then-at-len w ↦
-      let items = ap (λ v. v.items) w.cover-is in
-      let laid = laid_inside c.args.cover.now.items c.loop-i.cover.items c.args.part.now c.args.from c.loop-i.i w.index_mut.result.now 0 c.loop-i.invariant.laid (omega arith) (omega arith) in
+      let items = ap (λ v. v.items) w.codes-is in
+      let laid = laid_inside c.args.codes.now.items c.loop-i.codes.items c.args.part.now c.args.from c.loop-i.i w.index_mut.result.now 0 c.loop-i.invariant.laid (omega arith) (omega arith) in
       record { laid = cc (w.index_mut.ensures.value); within = omega (arith, ap length items, length-set {A = ℕ}) }
   | else-at-len+in_ok-push w ↦
-      let items = ap (λ v. v.items) w.cover-is ∙ w.in_ok-push.ensures.items in
-      let laid = laid_past c.args.cover.now.items c.loop-i.cover.items c.args.part.now c.args.from c.loop-i.i 0 c.loop-i.invariant.laid (omega arith) (omega arith) in
+      let items = ap (λ v. v.items) w.codes-is ∙ w.in_ok-push.ensures.items in
+      let laid = laid_past c.args.codes.now.items c.loop-i.codes.items c.args.part.now c.args.from c.loop-i.i 0 c.loop-i.invariant.laid (omega arith) (omega arith) in
       record { laid = items ∙ laid; within = omega (arith, ap length items, length-append {A = ℕ}) }
 ]
