@@ -1,16 +1,12 @@
 use Rattle.std.proofs.Common.{◌≡◌, ℕ, List, length, sum, take, drop, ◌++◌, ◌+◌, ◌-◌, sym, subst, ◌∙◌, ap, rules, ◌≤◌, arith, replicate}
-use Rattle.std.proofs.lemmas.Grind.{common_steps}
 use Rattle.kz_model.specs.Share.{share}
 use Rattle.kz_model.specs.Sharing.{IsDivision}
 use Rattle.kz_model.proofs.Shares.{share-division}
 use Rattle.kz_model.proofs.SharesGrow.{sum-ones}
 use Rattle.kz_model.specs.ShareLaws.{HaveSignatures, AreWithin, AreFairest}
 use Rattle.kz_model.proofs.SharesExist.{shares_are_within, shares_are_fairest}
+use Rattle.kz_plan.proofs.Written.{written}
 use Rattle.kz_plan.proofs.division.share.Goals as goal
-
--- a write of a whole list leaves that list
-written : (n : ℕ) (old new : List ℕ) → n ≡ length old → length new ≡ length old → take n (new ++ drop (length new) old) ≡ new
-written n old new long same = grind (arith, common_steps)
 
 -- the parts that begin as ones and divide the budget are the shares
 the_share : (counts start items new : List ℕ) (n budget : ℕ) → length counts ≤ budget → start ≡ replicate (length counts) 1 → start ≡ items → n ≡ length items → length new ≡ length start →

@@ -1,0 +1,12 @@
+pub mod Written
+pub mod Classes
+pub mod Signatures
+pub mod Places
+pub mod Shuffles
+pub mod Groups
+pub mod Deals
+pub mod ZoneRows
+pub mod Homes
+pub mod Order
+pub mod Presence
+pub mod Plans

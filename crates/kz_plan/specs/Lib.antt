@@ -1,0 +1,4 @@
+pub mod Shown
+pub mod Homes
+pub mod Parts
+pub mod Laws

@@ -1,0 +1,9 @@
+//! Laws over the definition of the plan, each the contract of a function that does nothing.
+ghost use Rattle.kz_plan.specs.Laws.{SignaturesRise, SignaturesAreThoseOfTypes, ShufflesKeepAll};
+
+/// A class deals the signatures of its types that aren't data-only, each once.
+pub fn signatures_are_dealt_once()
+    ensures rising { SignaturesRise }
+    ensures exact { SignaturesAreThoseOfTypes }
+    ensures kept { ShufflesKeepAll }
+{}
