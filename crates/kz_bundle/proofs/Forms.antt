@@ -1,0 +1,58 @@
+-- The form of a line by its first words.
+use Rattle.std.proofs.Common.{◌≡◌, ◌≢◌, ℕ, Bor, List, [], ◌∷◌, Option, Some, None, MatchOption, IfSome, length, subst, false, codes, refl, ap, sym, ◌∙◌}
+use Rattle.std.proofs.lemmas.Bool.{cond-false}
+use Rattle.kz_model.specs.declared.grammar.Place.{Place}
+use Rattle.kz_model.specs.declared.grammar.Place.TheVariants.{Header, Types, Steps, Order, Ended}
+use Rattle.kz_model.specs.Tokens.{words_of, is}
+use Rattle.kz_model.specs.Form.{Draft, is_head, header_line, cpu_line, line_of_types, line_of_steps, line_of_order, line_at, judged, after_line}
+use Rattle.kz_bundle.specs.declared.words.LineWords.{LineWords}
+use Rattle.kz_bundle.specs.declared.words.LineWords.TheVariants.{One, Two, Three, Four, More}
+use Rattle.kz_bundle.specs.Cut.{list_of, AreWords}
+use Rattle.kz_model.specs.declared.grammar.Mark.{Mark}
+use Rattle.kz_bundle.specs.declared.lines.Line.{Line}
+use Rattle.kz_bundle.specs.declared.reader.Reader.{Reader}
+use Rattle.kz_bundle.specs.Lines.{Fits, FitsSteps}
+use Rattle.kz_bundle.specs.Reading.{FoundFits}
+
+-- a function that tells five words or more by the first alone
+same_line : {X : Type 0} (f : List (List ℕ) → X) → ((first second third fourth fifth : List ℕ) (others : List (List ℕ)) →
+    f (first ∷ [] ∷ [] ∷ [] ∷ [] ∷ []) ≡ f (first ∷ second ∷ third ∷ fourth ∷ fifth ∷ others)) → (words : LineWords) (all : List (List ℕ)) → AreWords words all → f (list_of words) ≡ f all
+same_line f by (One w) all h = ap f (sym h)
+same_line f by (Two w x) all h = ap f (sym h)
+same_line f by (Three w x y) all h = ap f (sym h)
+same_line f by (Four w x y v) all h = ap f (sym h)
+same_line f by (More w) all h = by w.now h.second h.third h.fourth h.fifth h.others ∙ ap f (sym h.all)
+
+pub same_header : (at : ℕ) (words : LineWords) (all : List (List ℕ)) → AreWords words all → header_line at (list_of words) ≡ header_line at all
+same_header at words all h = same_line (header_line at) (λ a b c d e f. refl) words all h
+
+pub same_cpu : (cpu : ℕ) (words : LineWords) (all : List (List ℕ)) → AreWords words all → cpu_line cpu (list_of words) ≡ cpu_line cpu all
+same_cpu cpu words all h = same_line (cpu_line cpu) (λ a b c d e f. refl) words all h
+
+pub same_steps : (d : Draft) (words : LineWords) (all : List (List ℕ)) → AreWords words all → line_of_steps d (list_of words) ≡ line_of_steps d all
+same_steps d words all h = same_line (line_of_steps d) (λ a b c d e f. refl) words all h
+
+pub same_order : (d : Draft) (words : LineWords) (all : List (List ℕ)) → AreWords words all → line_of_order d (list_of words) ≡ line_of_order d all
+same_order d words all h = same_line (line_of_order d) (λ a b c d e f. refl) words all h
+
+-- the first word of a line that is cut
+pub first_word : (text first word : List ℕ) (rest : Option (Bor (List ℕ))) → MatchOption rest (words_of text ≡ first ∷ []) (λ rest. words_of text ≡ first ∷ words_of rest.now) → is_head word (words_of text) ≡ is word first
+first_word text first word None h = ap (is_head word) h
+first_word text first word (Some rest) h = ap (is_head word) h
+
+-- a line that is no type line
+pub no_type : (words : List (List ℕ)) → is_head (codes "type") words ≡ false → line_of_types words ≡ cpu_line 0 words
+no_type words e = cond-false (is_head (codes "type") words) _ (cpu_line 0 words) e
+
+-- before the last line
+pub before_end : (place : Place) (d : Draft) (number : ℕ) (words : List (List ℕ)) → place ≢ Ended → after_line place d number words ≡ judged d number (line_at place d words)
+before_end (Header at) d number words h = refl
+before_end Types d number words h = refl
+before_end Steps d number words h = refl
+before_end Order d number words h = refl
+before_end Ended d number words h = absurd (h refl)
+
+-- what is found among steps may stand there
+pub fits_at_steps : (r : Reader) (found : Option (Line × Mark)) → r.place ≡ Steps → IfSome found (λ f. FitsSteps r.header.cpus (length r.before.items) f.0) → FoundFits r found
+fits_at_steps r None at h = tt
+fits_at_steps r (Some f) at h = λ fine. (let P : Place → Type 0 = λ p. Fits p r.header.cpus (length r.before.items) f.0 in subst P (sym at) h)

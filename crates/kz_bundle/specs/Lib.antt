@@ -1,0 +1,13 @@
+pub mod Parts
+pub mod Rounds
+pub mod Rows
+pub mod Table
+pub mod Naming
+pub mod Numbers
+pub mod Cut
+pub mod Saids
+pub mod Lines
+pub mod Reading
+pub mod Bodies
+pub mod Printing
+pub mod Outlines

@@ -1,0 +1,362 @@
+//! What the lines of a text say, taken one after the other.
+ghost use Rattle.std.specs.Prelude.{◌≡◌, ◌≤◌, ◌+◌, ℕ, [], length, IfOk, IfSome, OnOk};
+ghost use Rattle.kz_model.specs.declared.grammar.Mark.TheVariants.{Fine};
+ghost use Rattle.kz_model.specs.declared.bundle.OrderLine.{OrderLine};
+ghost use Rattle.kz_model.specs.Tokens.{words_of as all_words};
+ghost use Rattle.kz_model.specs.TypeLines.{IsTypeLine, decl_of};
+ghost use Rattle.kz_model.specs.Form.{nothing_said, line_of_types as types_form, with_header as header_said, with_type as type_said, with_section as section_said, with_step as step_said, with_turn as turn_said, with_break as break_said, with_line, judged, line_at, after_line, rest_at};
+ghost use Rattle.kz_bundle.specs.Parts.{IsTurnWithin, AreParts, draft_of, turns_of};
+ghost use Rattle.kz_bundle.specs.Saids.{found_as, said_as, IsNamed};
+ghost use Rattle.kz_bundle.specs.Lines.{line_as, FitsTypes};
+ghost use Rattle.kz_bundle.specs.Reading.{so_far, IsReading, Takes, Forms, fault_at, FitsAt, FoundFits, IsNext, MayOpen};
+
+use crate::ReadBundleFault;
+use crate::check::check_type;
+use crate::lines::{Line, cpu_line, header_line, line_of_order, line_of_steps};
+use crate::names::Names;
+use crate::parts::{Part, Parts};
+use crate::steps::Said;
+use crate::tables::Tables;
+use crate::words::{cut, is, words_of};
+use kz_model::{
+    Cause, Counted, Header, Items, Mark, Name, OrderLine, Place, Refusal, Seed, Trace, TraceStep,
+    Types,
+};
+use std::alloc::{AllocError, Global};
+use std::mem;
+
+/// Why a line was not taken.
+#[derive(Clone, Copy, Debug, PartialEq, Eq)]
+pub enum Fault {
+    Refused(Cause),
+    Memory,
+}
+
+impl Fault {
+    /// The fault of the line of this number.
+    pub fn at(self, line: u32) -> ReadBundleFault
+        ensures { result ≡ fault_at line self }
+    {
+        match self {
+            Fault::Refused(cause) => ReadBundleFault::Refused(Refusal { line, cause }),
+            Fault::Memory => ReadBundleFault::Memory,
+        }
+    }
+}
+
+impl From<AllocError> for Fault {
+    ghost use Rattle.std.specs.Prelude.{◌≡◌};
+    ghost use Rattle.kz_bundle.specs.declared.reader.Fault.TheVariants.{Memory};
+
+    ghost from_gives = { λ _ fault. fault ≡ Memory };
+
+    fn from(_: AllocError) -> Fault {
+        Fault::Memory
+    }
+}
+
+/// What the lines so far say. The newest section stands beside those that are before it.
+#[derive(Drop)]
+pub struct Reader<'a> {
+    place: Place,
+    header: Header,
+    types: Types,
+    tables: Tables<'a>,
+    before: Vec<Part>,
+    section: Part,
+    steps: u32,
+    order: Option<Items<OrderLine>>,
+    order_at: u32,
+}
+
+fn too_many(what: Counted) -> Fault
+    ensures { result ≡ Fault.Refused (Cause.TooMany what) }
+{
+    Fault::Refused(Cause::TooMany { what })
+}
+
+/// A section that begins at this line.
+fn new_part(alloc: Global, line: u32) -> Part
+    ensures { result ≡ record { line = line; breaks = 0; steps = [] } }
+{
+    Part {
+        line,
+        breaks: 0,
+        steps: Trace::new(alloc),
+    }
+}
+
+/// A line where types stand: one more of them, or the first `cpu` line.
+fn line_of_types(text: &[u8]) -> Option<(Line<'_>, Mark)>
+    ensures given { found_as line_as result ≡ types_form (all_words text.now) }
+    ensures fits { IfSome result (λ found. found.1 ≡ Fine → FitsTypes found.0) }
+{
+    let (first, _) = cut(text);
+    if !is(first, b"type") {
+        return cpu_line(0, words_of(text));
+    }
+    let (name, mark) = check_type(text)?;
+    Some((Line::Declares(name, text), mark))
+}
+
+impl<'a> Reader<'a> {
+    /// Before the first line.
+    pub fn new(alloc: Global) -> Reader<'a>
+        ensures nothing { so_far result ≡ nothing_said }
+        ensures sound { IsReading result }
+    {
+        Reader {
+            place: Place::Header { at: 0 },
+            header: Header {
+                machine: 0,
+                seed: Seed::Plain,
+                cpus: 0,
+                frames: 0,
+                pages: 0,
+                budget: 0,
+                magazine: 0,
+                depot: 0,
+            },
+            types: Types::new(alloc),
+            tables: Tables {
+                names: Names::new(alloc),
+                words: Names::new(alloc),
+            },
+            before: Vec::new(alloc),
+            section: new_part(alloc, 0),
+            steps: 0,
+            order: None,
+            order_at: 0,
+        }
+    }
+
+    fn with_header(&mut self, header: Header)
+        requires sound { IsReading self.old }
+        requires next { IsNext self.old.place header.cpus }
+        ensures takes { so_far self.new ≡ header_said (so_far self.old) header }
+        ensures sound { IsReading self.new }
+    {
+        if let Place::Header { at } = self.place {
+            self.place = if at == 7 {
+                Place::Types
+            } else {
+                Place::Header { at: at + 1 }
+            };
+        }
+        self.header = header;
+    }
+
+    fn with_type(&mut self, alloc: Global, name: Name, text: &[u8]) -> Result<(), Fault>
+        requires sound { IsReading self.old }
+        requires fits { IsTypeLine text.now (decl_of text.now) }
+        requires named { name ≡ (decl_of text.now).name }
+        ensures takes { Takes result (so_far self.new) (type_said (so_far self.old) (decl_of text.now)) }
+        ensures sound { OnOk result (IsReading self.new) }
+    {
+        if self.types.len() == 1024 {
+            return Err(too_many(Counted::Types));
+        }
+        self.types.push(alloc, name, text)?;
+        Ok(())
+    }
+
+    /// The section of the next CPU begins.
+    fn with_section(&mut self, alloc: Global, line: u32) -> Result<(), Fault>
+        requires sound { IsReading self.old }
+        requires opens { MayOpen self.old.place self.old.header.cpus (length self.old.before.items) }
+        ensures takes { Takes result (so_far self.new) (Ok (section_said self.old.place (so_far self.old) line)) }
+        ensures sound { OnOk result (IsReading self.new) }
+    {
+        let section = mem::replace(&mut self.section, new_part(alloc, line));
+        if let Place::Types = self.place {
+            self.place = Place::Steps;
+        } else if self.before.push(section).is_err() {
+            return Err(Fault::Memory);
+        }
+        Ok(())
+    }
+
+    /// One more step.
+    fn with_step(&mut self, line: u32, said: Said<'a>) -> Result<(), Fault>
+        requires sound { IsReading self.old }
+        requires place { self.old.place ≡ Place.Steps }
+        requires named { IsNamed said }
+        ensures takes { Takes result (so_far self.new) (step_said (so_far self.old) line (said_as said.entry)) }
+        ensures sound { OnOk result (IsReading self.new) }
+    {
+        if self.steps == 1_000_000 {
+            return Err(too_many(Counted::Steps));
+        }
+        let round = self.section.breaks;
+        let act = self.tables.act_of(said)?;
+        self.section.steps.push(TraceStep { line, round, act })?;
+        self.steps += 1;
+        Ok(())
+    }
+
+    /// One more line of the order section.
+    fn with_turn(&mut self, turn: OrderLine) -> Result<(), Fault>
+        requires sound { IsReading self.old }
+        requires place { self.old.place ≡ Place.Order }
+        requires within { IsTurnWithin self.old.header.cpus turn }
+        ensures takes { Takes result (so_far self.new) (Ok (turn_said (so_far self.old) turn)) }
+        ensures sound { OnOk result (IsReading self.new) }
+    {
+        if let Some(turns) = &mut self.order {
+            turns.push(turn)?;
+        }
+        Ok(())
+    }
+
+    /// One more round, of the order or of the newest section.
+    fn with_break(&mut self) -> Result<(), Fault>
+        requires sound { IsReading self.old }
+        requires fits { FitsAt self.old Line.Break }
+        ensures takes { Takes result (so_far self.new) (break_said self.old.place (so_far self.old)) }
+        ensures sound { OnOk result (IsReading self.new) }
+    {
+        if let Place::Order = self.place {
+            return self.with_turn(OrderLine::Round);
+        }
+        if self.section.breaks == 999 {
+            return Err(too_many(Counted::Rounds));
+        }
+        self.section.breaks += 1;
+        Ok(())
+    }
+
+    /// The order section begins.
+    fn with_order(&mut self, alloc: Global, line: u32)
+        requires sound { IsReading self.old }
+        requires fits { FitsAt self.old Line.Orders }
+        requires early { line ≤ 33554432 }
+        ensures takes { with_line (so_far self.old) line (line_as Line.Orders) ≡ Ok (so_far self.new) }
+        ensures sound { IsReading self.new }
+    {
+        self.place = Place::Order;
+        self.order = Some(Items::new(alloc));
+        self.order_at = line;
+    }
+
+    /// What a line says, added to what is said.
+    fn take(&mut self, alloc: Global, number: u32, line: Line<'a>) -> Result<(), Fault>
+        requires sound { IsReading self.old }
+        requires fits { FitsAt self.old line }
+        requires early { number ≤ 33554432 }
+        ensures takes { Takes result (so_far self.new) (with_line (so_far self.old) number (line_as line.entry)) }
+        ensures sound { OnOk result (IsReading self.new) }
+    {
+        let header = self.header;
+        match line {
+            Line::Machine(machine) => self.with_header(Header { machine, ..header }),
+            Line::SeedOf(seed) => self.with_header(Header { seed, ..header }),
+            Line::Cpus(cpus) => self.with_header(Header { cpus, ..header }),
+            Line::Frames(frames) => self.with_header(Header { frames, ..header }),
+            Line::Pages(pages) => self.with_header(Header { pages, ..header }),
+            Line::Budget(budget) => self.with_header(Header { budget, ..header }),
+            Line::Magazine(magazine) => self.with_header(Header { magazine, ..header }),
+            Line::Depot(depot) => self.with_header(Header { depot, ..header }),
+            Line::Declares(name, text) => return self.with_type(alloc, name, text),
+            Line::Opens(_) => return self.with_section(alloc, number),
+            Line::Does(said) => return self.with_step(number, said),
+            Line::Break => return self.with_break(),
+            Line::Turns(cpu) => return self.with_turn(OrderLine::Cpu { cpu }),
+            Line::Orders => self.with_order(alloc, number),
+            Line::Ends => self.place = Place::Ended,
+        }
+        Ok(())
+    }
+
+    /// What is found in a line, added where it has a form and its numbers are fine.
+    fn judge(
+        &mut self,
+        alloc: Global,
+        number: u32,
+        found: Option<(Line<'a>, Mark)>,
+    ) -> Result<(), Fault>
+        requires sound { IsReading self.old }
+        requires fits { FoundFits self.old found }
+        requires early { number ≤ 33554432 }
+        ensures takes { Takes result (so_far self.new) (judged (so_far self.old) number (found_as line_as found.entry)) }
+        ensures sound { OnOk result (IsReading self.new) }
+    {
+        match found {
+            None => Err(Fault::Refused(Cause::BadLine)),
+            Some((_, Mark::BadNumber)) => Err(Fault::Refused(Cause::BadNumber)),
+            Some((_, Mark::OutOfRange)) => Err(Fault::Refused(Cause::OutOfRange)),
+            Some((line, Mark::Fine)) => self.take(alloc, number, line),
+        }
+    }
+
+    /// The form of a line, with what is wrong with its numbers.
+    fn form(&self, text: &'a [u8]) -> Option<(Line<'a>, Mark)>
+        requires { IsReading self.now }
+        ensures given { found_as line_as result ≡ line_at self.now.place (so_far self.now) (all_words text.now) }
+        ensures fits { FoundFits self.now result }
+    {
+        let cpus = self.header.cpus;
+        match self.place {
+            Place::Header { at } => header_line(at, words_of(text)),
+            Place::Types => line_of_types(text),
+            Place::Steps => {
+                let next = self.before.len() as u32 + 1;
+                line_of_steps(cpus, next, next == cpus, words_of(text))
+            }
+            Place::Order => line_of_order(cpus, words_of(text)),
+            Place::Ended => None,
+        }
+    }
+
+    /// One more line.
+    pub fn line(&mut self, alloc: Global, number: u32, text: &'a [u8]) -> Result<(), Fault>
+        requires sound { IsReading self.old }
+        requires early { number ≤ 33554432 }
+        ensures takes { Takes result (so_far self.new) (after_line self.old.place (so_far self.old) number (all_words text.now)) }
+        ensures sound { OnOk result (IsReading self.new) }
+    {
+        if let Place::Ended = self.place {
+            return Err(Fault::Refused(Cause::Trailing));
+        }
+        let found = self.form(text);
+        self.judge(alloc, number, found)
+    }
+
+    fn into_parts(self) -> Result<Parts<'a>, AllocError>
+        requires sound { IsReading self }
+        requires place { self.place ≡ Place.Ended }
+        requires few_turns { length (turns_of self.order) ≤ 33554432 }
+        ensures form { IfOk result (λ parts. draft_of parts ≡ so_far self.entry) }
+        ensures parts { IfOk result (λ parts. AreParts parts) }
+    {
+        let mut sections = self.before;
+        sections.push(self.section)?;
+        Ok(Parts {
+            header: self.header,
+            types: self.types,
+            names: self.tables.names.into_texts(),
+            words: self.tables.words.into_texts(),
+            sections,
+            order: self.order,
+            order_at: self.order_at,
+        })
+    }
+
+    /// What all lines say, where `rest` is what follows the last line that is ended, and has this
+    /// number.
+    pub fn finish(self, number: u32, rest: &[u8]) -> Result<Parts<'a>, ReadBundleFault>
+        requires sound { IsReading self }
+        requires few_turns { length (turns_of self.order) ≤ 33554432 }
+        ensures form { Forms result (rest_at self.entry.place (so_far self.entry) number rest.now) }
+        ensures parts { IfOk result (λ parts. AreParts parts) }
+    {
+        match self.place {
+            Place::Ended => {
+                if !rest.is_empty() {
+                    return Err(Fault::Refused(Cause::Trailing).at(number));
+                }
+                Ok(self.into_parts()?)
+            }
+            _ => Err(Fault::Refused(Cause::Truncated).at(number)),
+        }
+    }
+}
