@@ -1,12 +1,8 @@
--- The report of a form and its record is the plain list of its lines.
-use Rattle.std.proofs.Common.{◌≡◌, ℕ, zero, suc, ◌+◌, ◌<◌, ◌==◌, ◌&&◌, ◌||◌, nat_lt, nat_le, lit<, subst, Bool, true, false, if◌then◌else◌, List, [], ◌∷◌, ◌++◌, length, take, drop, map, slice_index, slice_index_or, Option, None, Some, codes, decimal, refl, ap, sym, ◌∙◌, arith, append_assoc}
-use Rattle.std.specs.Bool.{IsTrue}
-use Rattle.std.specs.Str.{IsAscii, IsUtf8}
-use Rattle.std.specs.List.{filter, count_by, enumerate_from, list_all}
+-- The report of a bundle of the built form and its record is the plain list of its lines.
+use Rattle.std.proofs.Common.{◌≡◌, ℕ, zero, suc, ◌+◌, ◌<◌, ◌==◌, nat_lt, subst, Bool, true, false, if◌then◌else◌, List, [], ◌∷◌, ◌++◌, length, take, drop, map, slice_index, slice_index_or, Option, None, Some, codes, decimal, refl, ap, sym, ◌∙◌, arith, append_assoc}
+use Rattle.std.specs.List.{filter, count_by, enumerate_from}
 use Rattle.std.specs.Option.{option_map_or}
 use Rattle.std.proofs.lemmas.List.{append-nil, take_all, get_or_at, length-map}
-use Rattle.std.proofs.lemmas.Bool.Decides.{nat_tests}
-use Rattle.std.proofs.lemmas.Str.{IsUtf8-from_ascii}
 use Rattle.std.proofs.Math.Seq.{take-add}
 use Rattle.std.proofs.lemmas.List.Recursion.{is_count_by}
 use Rattle.kz_model.specs.declared.bundle.Bundle.{Bundle}
@@ -14,7 +10,11 @@ use Rattle.kz_model.specs.declared.bundle.TraceStep.{TraceStep}
 use Rattle.kz_model.specs.declared.step.Step.{Step}
 use Rattle.kz_model.specs.declared.step.Reply.{Reply}
 use Rattle.kz_model.specs.declared.step.Reply.TheVariants as reply
+use Rattle.kz_model.specs.declared.record.Layout.{Layout}
 use Rattle.kz_model.specs.declared.record.Plan.{Plan}
+use Rattle.kz_model.specs.declared.record.ZoneRow.{ZoneRow}
+use Rattle.kz_model.specs.Class.{IsFitGeometry}
+use Rattle.kz_model.specs.Valid.{plan_in, replayed_text}
 use Rattle.kz_model.specs.declared.record.Visit.{Visit}
 use Rattle.kz_model.specs.declared.record.ZoneParams.{ZoneParams}
 use Rattle.kz_model.specs.declared.supply.SupplyEntry.{SupplyEntry}
@@ -22,26 +22,22 @@ use Rattle.kz_model.specs.declared.supply.Answer.{Answer as SupplyAnswer}
 use Rattle.kz_model.specs.Zone.{ZoneState, opening, Chunk}
 use Rattle.kz_model.specs.Rules.{Stepped, alone_step}
 use Rattle.kz_model.specs.Alone.{Course, course, with_first, all_used, alone}
-use Rattle.kz_model.specs.Journal.{addressed, steps_among, steps_of, spell, answers_at, alone_at, type_of_name}
+use Rattle.kz_model.specs.Journal.{zone_row, trace_of, addressed, steps_among, steps_of, spell, answers_at, alone_at, type_of_name}
 use Rattle.kz_model.specs.Text.{text_of_lines, reply_line, ask_line}
 use Rattle.kz_model.specs.Order.{order_run}
-use Rattle.kz_model.specs.Report.{Answered, zone_replies, zone_chunks, replies_carried, answered_after, answered_lines, bases, base_of, chunk_line, zone_visits_lines, is_alloc_of, is_free_of, type_line, zone_line, use_line, round_lines, report_lines, report_text}
+use Rattle.kz_model.specs.Report.{Answered, zone_replies, zone_chunks, replies_carried, answered_after, answered_lines, bases, base_of, chunk_line, zone_visits_lines, is_alloc_of, is_free_of, use_line, plan_lines, round_lines, report_lines, report_text}
 use Rattle.kz_model.proofs.Spelling.{visit_of as spelled_visit, count_of as spelled_count, spell_after-visits}
 use Rattle.kz_model.proofs.OneCpu.{AllToOne}
-use Rattle.kz_top.specs.declared.form.First.{First}
-use Rattle.kz_top.specs.declared.form.StepLine.{StepLine}
+use Rattle.kz_top.specs.declared.lines.StepLine.{StepLine}
+use Rattle.kz_top.specs.declared.lines.StepLine.TheVariants.{Allocate, Free}
 use Rattle.kz_top.specs.declared.machine.Answer.{Answer}
 use Rattle.kz_top.specs.declared.machine.Answer.TheVariants as answer
 use Rattle.kz_top.specs.declared.machine.Ran.{Ran}
-use Rattle.kz_top.specs.Form.{IsForm, is_name, is_name_byte, is_small, is_between, Form, Said, Allocates, Frees, bundle_of, names_of, place_of, trace_from, numbered_line}
-use Rattle.kz_top.specs.OneZone.{data_plan, data_layouts, replay_text, visit_of, journal_of, log_of, reply_of, total, zone_params, zone_steps, IsRecord}
-use Rattle.kz_top.specs.Lines.{answer_line, is_alloc, is_free, count_of, use_text, chunk_lines, visits_lines, plain_lines, Reports}
-use Rattle.kz_top.proofs.FormTrace.{type_is_0, trace-all_to_one, length-trace, length-steps, lines_of_round-form}
+use Rattle.kz_top.specs.Small.{Small, Line, Is, IsPlanned, act_of, trace_line, bundle_of, plan_with, params_with}
+use Rattle.kz_top.specs.OneZone.{visit_of, journal_of, log_of, reply_of, total, zone_steps, IsRecord}
+use Rattle.kz_top.specs.Lines.{answer_line, is_alloc, is_free, count_of, use_text, chunk_lines, visits_lines, plain_lines}
+use Rattle.kz_top.proofs.SmallTrace.{trace, type_is_0, lines-all_to_one, length-steps, lines_of_round-small}
 use Rattle.kz_top.proofs.ReportText.{zero_text}
-
--- the step lines
-abbrev trace : Form → List TraceStep
-trace form = trace_from (names_of form.said) 11 form.said
 
 -- ---- a course has a reply for each step
 
@@ -142,36 +138,36 @@ answered-one b plan journals log replies carried earlier before same (line ∷ l
     length_of [] y = refl
     length_of (x ∷ xs) y = omega (arith, length_of xs y)
 
-abbrev said_answers : Form → List Answer → List Answered
-said_answers form answers = with_replies (trace form) (map reply_of answers)
+abbrev said_answers : Small → List Answer → List Answered
+said_answers small answers = with_replies (trace small) (map reply_of answers)
 
 -- ---- the lines of the replies
 
-line_of : (form : Form) (grown : Bool) (a : Answer) →
-    reply_line (zone_params form) (base_of (bases 0 (log_of grown)) (reply_of a)) (reply_of a) ≡ answer_line a
-line_of form true (answer.Block block) = by_chunk block.chunk
+line_of : (row : ZoneRow) (grown : Bool) (a : Answer) →
+    reply_line (params_with row) (base_of (bases 0 (log_of row grown)) (reply_of a)) (reply_of a) ≡ answer_line row a
+line_of row true (answer.Block block) = by_chunk block.chunk
   where
-    by_chunk : (chunk : ℕ) → reply_line (zone_params form) (slice_index (0 ∷ []) chunk) (reply.Block block) ≡ answer_line (answer.Block block)
+    by_chunk : (chunk : ℕ) → reply_line (params_with row) (slice_index (0 ∷ []) chunk) (reply.Block block) ≡ answer_line row (answer.Block block)
     by_chunk zero = refl
     by_chunk (suc chunk) = refl
-line_of form false (answer.Block block) = refl
-line_of form true answer.Done = refl
-line_of form false answer.Done = refl
-line_of form true answer.NameBusy = refl
-line_of form false answer.NameBusy = refl
-line_of form true answer.NoName = refl
-line_of form false answer.NoName = refl
-line_of form true answer.NotHeld = refl
-line_of form false answer.NotHeld = refl
+line_of row false (answer.Block block) = refl
+line_of row true answer.Done = refl
+line_of row false answer.Done = refl
+line_of row true answer.NameBusy = refl
+line_of row false answer.NameBusy = refl
+line_of row true answer.NoName = refl
+line_of row false answer.NoName = refl
+line_of row true answer.NotHeld = refl
+line_of row false answer.NotHeld = refl
 
-lines_of : (form : Form) (grown : Bool) (names : List (List ℕ)) (n : ℕ) (said : List Said) (answers : List Answer) → length answers ≡ length said →
-    round_lines (bundle_of form) data_plan (log_of grown) (with_replies (trace_from names n said) (map reply_of answers)) ≡ map answer_line answers
-lines_of form grown names n [] [] same = refl
-lines_of form grown names n [] (a ∷ answers) same = absurd (omega arith)
-lines_of form grown names n (s ∷ said) [] same = absurd (omega arith)
-lines_of form grown names n (s ∷ said) (a ∷ answers) same =
-    ap (λ (line : List ℕ). line ∷ round_lines (bundle_of form) data_plan (log_of grown) (with_replies (trace_from names (n + 1) said) (map reply_of answers))) (line_of form grown a)
-    ∙ ap (λ (lines : List (List ℕ)). answer_line a ∷ lines) (lines_of form grown names (n + 1) said answers (omega arith))
+lines_of : (small : Small) (grown : Bool) (lines : List Line) (answers : List Answer) → length answers ≡ length lines →
+    round_lines (bundle_of small) (plan_with small.row) (log_of small.row grown) (with_replies (map trace_line lines) (map reply_of answers)) ≡ map (answer_line small.row) answers
+lines_of small grown [] [] same = refl
+lines_of small grown [] (a ∷ answers) same = absurd (omega arith)
+lines_of small grown (l ∷ lines) [] same = absurd (omega arith)
+lines_of small grown (l ∷ lines) (a ∷ answers) same =
+    ap (λ (line : List ℕ). line ∷ round_lines (bundle_of small) (plan_with small.row) (log_of small.row grown) (with_replies (map trace_line lines) (map reply_of answers))) (line_of small.row grown a)
+    ∙ ap (λ (lines : List (List ℕ)). answer_line small.row a ∷ lines) (lines_of small grown lines answers (omega arith))
 
 -- ---- the counts
 
@@ -182,191 +178,206 @@ count_if test (x ∷ xs) = if test x then 1 + count_if test xs else count_if tes
 count_by-if : (test : Answered → Bool) (xs : List Answered) → count_by test xs ≡ count_if test xs
 count_by-if test xs = sym (is_count_by (count_if test) test refl (λ x xs. refl) xs)
 
-type_is : (form : Form) (i : ℕ) → (type_of_name (bundle_of form) i == 0) ≡ true
-type_is form i = ap (λ of. of == 0) (type_is_0 form i)
+type_is : (small : Small) (i : ℕ) → (type_of_name (bundle_of small) i == 0) ≡ true
+type_is small i = ap (λ of. of == 0) (type_is_0 small i)
 
 one_more : (b : Bool) (n m : ℕ) → b ≡ true → n ≡ m → (if b then 1 + n else n) ≡ 1 + m
 one_more true n m e same = ap (λ n. 1 + n) same
 one_more false n m e same = absurd (cc)
 
-allocs_of : (form : Form) (names : List (List ℕ)) (n : ℕ) (said : List Said) (answers : List Answer) →
-    count_if (is_alloc_of (bundle_of form) 0) (with_replies (trace_from names n said) (map reply_of answers)) ≡ count_of is_alloc (map (numbered_line names) said) answers
-allocs_of form names n [] answers = refl
-allocs_of form names n (s ∷ said) [] = refl
-allocs_of form names n (Allocates name ∷ said) (answer.Block block ∷ answers) = one_more _ _ _ (type_is form (place_of name names)) (allocs_of form names (n + 1) said answers)
-allocs_of form names n (s ∷ said) (a ∷ answers) = omega (arith, allocs_of form names (n + 1) said answers)
+-- the line with the reply to it
+abbrev answered : StepLine → Answer → Answered
+answered line a = record { act = act_of line; zone = 0; reply = reply_of a }
 
-frees_of : (form : Form) (names : List (List ℕ)) (n : ℕ) (said : List Said) (answers : List Answer) →
-    count_if (is_free_of (bundle_of form) 0) (with_replies (trace_from names n said) (map reply_of answers)) ≡ count_of is_free (map (numbered_line names) said) answers
-frees_of form names n [] answers = refl
-frees_of form names n (s ∷ said) [] = refl
-frees_of form names n (Frees name ∷ said) (answer.Done ∷ answers) = one_more _ _ _ (type_is form (place_of name names)) (frees_of form names (n + 1) said answers)
-frees_of form names n (s ∷ said) (a ∷ answers) = omega (arith, frees_of form names (n + 1) said answers)
+one_alloc : (small : Small) (line : StepLine) (a : Answer) (n m : ℕ) → n ≡ m →
+    (if is_alloc_of (bundle_of small) 0 (answered line a) then 1 + n else n) ≡ (if is_alloc (act_of line) a then 1 else 0) + m
+one_alloc small (Allocate name) (answer.Block block) n m same = one_more _ _ _ (type_is small name) same
+one_alloc small (Allocate name) answer.Done n m same = omega arith
+one_alloc small (Allocate name) answer.NameBusy n m same = omega arith
+one_alloc small (Allocate name) answer.NoName n m same = omega arith
+one_alloc small (Allocate name) answer.NotHeld n m same = omega arith
+one_alloc small (Free name) a n m same = omega arith
 
-use_of : (form : Form) (answers : List Answer) →
-    use_line (bundle_of form) (said_answers form answers ++ [] ++ []) 0
-    ≡ use_text form.type_name (count_of is_alloc (map (numbered_line (names_of form.said)) form.said) answers) (count_of is_free (map (numbered_line (names_of form.said)) form.said) answers)
-use_of form answers =
-    let whole : said_answers form answers ++ [] ++ [] ≡ said_answers form answers = append-nil (said_answers form answers ++ []) ∙ append-nil (said_answers form answers) in
-    ap (λ (lines : List Answered). use_line (bundle_of form) lines 0) whole
-    ∙ ap (λ allocs. use_text form.type_name allocs (count_by (is_free_of (bundle_of form) 0) (said_answers form answers))) (count_by-if (is_alloc_of (bundle_of form) 0) (said_answers form answers) ∙ allocs_of form (names_of form.said) 11 form.said answers)
-    ∙ ap (λ frees. use_text form.type_name (count_of is_alloc (map (numbered_line (names_of form.said)) form.said) answers) frees) (count_by-if (is_free_of (bundle_of form) 0) (said_answers form answers) ∙ frees_of form (names_of form.said) 11 form.said answers)
+allocs_of : (small : Small) (lines : List Line) (answers : List Answer) →
+    count_if (is_alloc_of (bundle_of small) 0) (with_replies (map trace_line lines) (map reply_of answers)) ≡ count_of is_alloc (map trace_line lines) answers
+allocs_of small [] answers = refl
+allocs_of small (l ∷ lines) [] = refl
+allocs_of small (l ∷ lines) (a ∷ answers) = one_alloc small l.does a _ _ (allocs_of small lines answers)
+
+one_free : (small : Small) (line : StepLine) (a : Answer) (n m : ℕ) → n ≡ m →
+    (if is_free_of (bundle_of small) 0 (answered line a) then 1 + n else n) ≡ (if is_free (act_of line) a then 1 else 0) + m
+one_free small (Free name) answer.Done n m same = one_more _ _ _ (type_is small name) same
+one_free small (Free name) (answer.Block block) n m same = omega arith
+one_free small (Free name) answer.NameBusy n m same = omega arith
+one_free small (Free name) answer.NoName n m same = omega arith
+one_free small (Free name) answer.NotHeld n m same = omega arith
+one_free small (Allocate name) a n m same = omega arith
+
+frees_of : (small : Small) (lines : List Line) (answers : List Answer) →
+    count_if (is_free_of (bundle_of small) 0) (with_replies (map trace_line lines) (map reply_of answers)) ≡ count_of is_free (map trace_line lines) answers
+frees_of small [] answers = refl
+frees_of small (l ∷ lines) [] = refl
+frees_of small (l ∷ lines) (a ∷ answers) = one_free small l.does a _ _ (frees_of small lines answers)
+
+use_of : (small : Small) (answers : List Answer) →
+    use_line (bundle_of small) (said_answers small answers ++ [] ++ []) 0
+    ≡ use_text small.decl.name (count_of is_alloc (trace small) answers) (count_of is_free (trace small) answers)
+use_of small answers =
+    let whole : said_answers small answers ++ [] ++ [] ≡ said_answers small answers = append-nil (said_answers small answers ++ []) ∙ append-nil (said_answers small answers) in
+    ap (λ (lines : List Answered). use_line (bundle_of small) lines 0) whole
+    ∙ ap (λ allocs. use_text small.decl.name allocs (count_by (is_free_of (bundle_of small) 0) (said_answers small answers))) (count_by-if (is_alloc_of (bundle_of small) 0) (said_answers small answers) ∙ allocs_of small small.lines answers)
+    ∙ ap (λ frees. use_text small.decl.name (count_of is_alloc (trace small) answers) frees) (count_by-if (is_free_of (bundle_of small) 0) (said_answers small answers) ∙ frees_of small small.lines answers)
 
 -- ---- the chunk and the visits
 
-chunks_are : (form : Form) (grown : Bool) (chunks : List Chunk) → map (λ (chunk : Chunk). chunk.mapped) chunks ≡ (if grown then true ∷ [] else []) →
-    map (chunk_line (bundle_of form) data_plan (log_of grown) 0) (enumerate_from 0 chunks) ≡ chunk_lines grown
-chunks_are form true [] e = absurd (cc)
-chunks_are form true (chunk ∷ []) e = one chunk (first_of e)
+chunks_are : (small : Small) (grown : Bool) (chunks : List Chunk) → map (λ (chunk : Chunk). chunk.mapped) chunks ≡ (if grown then true ∷ [] else []) →
+    map (chunk_line (bundle_of small) (plan_with small.row) (log_of small.row grown) 0) (enumerate_from 0 chunks) ≡ chunk_lines small.row grown
+chunks_are small true [] e = absurd (cc)
+chunks_are small true (chunk ∷ []) e = one chunk (first_of e)
   where
     first_of : chunk.mapped ∷ [] ≡ true ∷ [] → chunk.mapped ≡ true
     first_of e = cc
 
-    one : (chunk : Chunk) → chunk.mapped ≡ true → chunk_line (bundle_of form) data_plan (log_of true) 0 (0, chunk) ∷ [] ≡ chunk_lines true
+    one : (chunk : Chunk) → chunk.mapped ≡ true → chunk_line (bundle_of small) (plan_with small.row) (log_of small.row true) 0 (0, chunk) ∷ [] ≡ chunk_lines small.row true
     one chunk e = rw (e, zero_text) refl
-chunks_are form true (chunk ∷ another ∷ chunks) e = absurd (cc)
-chunks_are form false [] e = refl
-chunks_are form false (chunk ∷ chunks) e = absurd (cc)
+chunks_are small true (chunk ∷ another ∷ chunks) e = absurd (cc)
+chunks_are small false [] e = refl
+chunks_are small false (chunk ∷ chunks) e = absurd (cc)
 
 all_there : (counts : List (ℕ × Bool)) → filter (λ (v : Visit). v.round == 0) (map (spelled_visit 0 0) counts) ≡ map (spelled_visit 0 0) counts
 all_there [] = refl
 all_there (v ∷ counts) = ap (λ (visits : List Visit). spelled_visit 0 0 v ∷ visits) (all_there counts)
 
-visits_are : (form : Form) (visits : List ℕ) (settled : ℕ) → zone_visits_lines (bundle_of form) 0 (journal_of visits settled) ≡ visits_lines (journal_of visits settled)
-visits_are form visits settled =
+visits_are : (small : Small) (visits : List ℕ) (settled : ℕ) → zone_visits_lines (bundle_of small) 0 (journal_of visits settled) ≡ visits_lines (journal_of visits settled)
+visits_are small visits settled =
     let same = journal-counts visits settled in
     let there : filter (λ (v : Visit). v.round == 0) (journal_of visits settled) ≡ journal_of visits settled = ap (filter (λ (v : Visit). v.round == 0)) same ∙ all_there (counts_of visits settled) ∙ sym same in
     ap (λ (visits : List Visit). visits_lines visits ++ []) there ∙ append-nil (visits_lines (journal_of visits settled))
 
 -- ---- the whole
 
-regrouped : (replies used chunks visits asks end : List (List ℕ)) →
-    replies ++ [] ++ [] ++ used ++ (chunks ++ []) ++ (visits ++ []) ++ asks ++ end ≡ replies ++ used ++ chunks ++ visits ++ asks ++ end
-regrouped replies used chunks visits asks end = simp (append_assoc, append-nil)
+all_regrouped : (plan cpu replies used chunks visits asks end : List (List ℕ)) →
+    plan ++ ((cpu ++ (replies ++ [])) ++ []) ++ used ++ (chunks ++ []) ++ (visits ++ []) ++ asks ++ end ≡ (plan ++ cpu) ++ replies ++ used ++ chunks ++ visits ++ asks ++ end
+all_regrouped plan cpu replies used chunks visits asks end = simp (append_assoc, append-nil)
 
--- what a form's record gives at the one zone
-alone_there : (form : Form) (ran : Ran) (is : IsRecord form ran) → alone_at (bundle_of form) data_plan (journal_of ran.visits.items ran.settled ∷ []) (log_of ran.grown) 0 ≡ Some is.course
-alone_there form ran is =
-    let b = bundle_of form in
+regrouped : (plan : List (List ℕ)) (cpu : List ℕ) (replies used chunks visits asks end : List (List ℕ)) →
+    plan ++ ((cpu ∷ (replies ++ [])) ++ []) ++ used ++ (chunks ++ []) ++ (visits ++ []) ++ asks ++ end ≡ (plan ++ cpu ∷ []) ++ replies ++ used ++ chunks ++ visits ++ asks ++ end
+regrouped plan cpu replies used chunks visits asks end = all_regrouped plan (cpu ∷ []) replies used chunks visits asks end
+
+-- what its record gives at the one zone
+alone_there : (small : Small) (ran : Ran) (is : IsRecord small ran) → alone_at (bundle_of small) (plan_with small.row) (journal_of ran.visits.items ran.settled ∷ []) (log_of small.row ran.grown) 0 ≡ Some is.course
+alone_there small ran is =
+    let b = bundle_of small in
     let counts = counts_of ran.visits.items ran.settled in
-    let steps = steps_of b data_plan 0 0 0 in
-    let all : spelled_count counts ≡ length steps = count-counts ran.visits.items ran.settled ∙ is.counted ∙ sym (length-steps form) in
-    let spelled : spell b data_plan (map (spelled_visit 0 0) counts ∷ []) 0 ≡ Some (map (λ (step : Step). (0, step)) (take (spelled_count counts) steps)) = spell_after-visits b data_plan 0 0 0 [] counts (omega (arith, all)) in
-    let P : Option (List (ℕ × Step)) → Option Course = λ o. option_map_or (λ steps. alone (zone_params form) steps (answers_at 0 (log_of ran.grown))) o None in
-    ap (λ (journal : List Visit). P (spell b data_plan (journal ∷ []) 0)) (journal-counts ran.visits.items ran.settled)
+    let steps = steps_of b (plan_with small.row) 0 0 0 in
+    let all : spelled_count counts ≡ length steps = count-counts ran.visits.items ran.settled ∙ is.counted ∙ sym (length-steps small) in
+    let spelled : spell b (plan_with small.row) (map (spelled_visit 0 0) counts ∷ []) 0 ≡ Some (map (λ (step : Step). (0, step)) (take (spelled_count counts) steps)) = spell_after-visits b (plan_with small.row) 0 0 0 [] counts (omega (arith, all)) in
+    let P : Option (List (ℕ × Step)) → Option Course = λ o. option_map_or (λ steps. alone (params_with small.row) steps (answers_at 0 (log_of small.row ran.grown))) o None in
+    ap (λ (journal : List Visit). P (spell b (plan_with small.row) (journal ∷ []) 0)) (journal-counts ran.visits.items ran.settled)
     ∙ ap P spelled
-    ∙ ap (λ (xs : List Step). alone (zone_params form) (map (λ (step : Step). (0, step)) xs) (answers_at 0 (log_of ran.grown))) (take_all (spelled_count counts) steps (omega (arith, all)))
+    ∙ ap (λ (xs : List Step). alone (params_with small.row) (map (λ (step : Step). (0, step)) xs) (answers_at 0 (log_of small.row ran.grown))) (take_all (spelled_count counts) steps (omega (arith, all)))
     ∙ is.alone
 
-answers_long : (form : Form) (ran : Ran) (is : IsRecord form ran) → length ran.replies.items ≡ length form.said
-answers_long form ran is =
+answers_long : (small : Small) (ran : Ran) (is : IsRecord small ran) → length ran.replies.items ≡ length small.lines
+answers_long small ran is =
     sym (length-map ran.replies.items reply_of)
     ∙ ap (λ (replies : List Reply). length replies) (sym is.replies)
-    ∙ alone_length (zone_params form) (zone_steps form) (answers_at 0 (log_of ran.grown)) is.course is.alone
-    ∙ length-map (steps_of (bundle_of form) data_plan 0 0 0) (λ (step : Step). (0, step))
-    ∙ length-steps form
+    ∙ alone_length (params_with small.row) (zone_steps small) (answers_at 0 (log_of small.row ran.grown)) is.course is.alone
+    ∙ length-map (steps_of (bundle_of small) (plan_with small.row) 0 0 0) (λ (step : Step). (0, step))
+    ∙ length-steps small
 
-answered_there : (form : Form) (ran : Ran) (is : IsRecord form ran) →
-    answered_lines (bundle_of form) data_plan (journal_of ran.visits.items ran.settled ∷ []) (log_of ran.grown) 0 0 ≡ said_answers form ran.replies.items
-answered_there form ran is =
-    let b = bundle_of form in
+answered_there : (small : Small) (ran : Ran) (is : IsRecord small ran) →
+    answered_lines (bundle_of small) (plan_with small.row) (journal_of ran.visits.items ran.settled ∷ []) (log_of small.row ran.grown) 0 0 ≡ said_answers small ran.replies.items
+answered_there small ran is =
+    let b = bundle_of small in
     let journal = journal_of ran.visits.items ran.settled in
-    let log = log_of ran.grown in
+    let log = log_of small.row ran.grown in
     let counts = counts_of ran.visits.items ran.settled in
     let replies = map reply_of ran.replies.items in
-    let long : length replies ≡ length form.said = length-map ran.replies.items reply_of ∙ answers_long form ran is in
-    let total_is : spelled_count counts ≡ length form.said = count-counts ran.visits.items ran.settled ∙ is.counted in
-    let there : zone_replies b data_plan (journal ∷ []) log 0 ≡ replies = ap (λ (o : Option Course). option_map_or (λ (c : Course). c.replies) o []) (alone_there form ran is) ∙ is.replies in
-    let carried : replies_carried 0 0 journal (zone_replies b data_plan (journal ∷ []) log 0) ≡ replies =
+    let long : length replies ≡ length small.lines = length-map ran.replies.items reply_of ∙ answers_long small ran is in
+    let total_is : spelled_count counts ≡ length small.lines = count-counts ran.visits.items ran.settled ∙ is.counted in
+    let there : zone_replies b (plan_with small.row) (journal ∷ []) log 0 ≡ replies = ap (λ (o : Option Course). option_map_or (λ (c : Course). c.replies) o []) (alone_there small ran is) ∙ is.replies in
+    let carried : replies_carried 0 0 journal (zone_replies b (plan_with small.row) (journal ∷ []) log 0) ≡ replies =
     ap (λ (rs : List Reply). replies_carried 0 0 journal rs) there
     ∙ ap (λ (visits : List Visit). replies_carried 0 0 visits replies) (journal-counts ran.visits.items ran.settled)
     ∙ replies-counts counts replies
     ∙ take_all (spelled_count counts) replies (omega (arith, long, total_is)) in
-    ap (λ (lines : List TraceStep). answered_after b data_plan (journal ∷ []) log 0 0 [] lines) (lines_of_round-form form)
-    ∙ answered-one b data_plan (journal ∷ []) log replies carried [] [] refl (trace form) replies (trace-all_to_one form 11 form.said) refl (long ∙ sym (length-trace (names_of form.said) 11 form.said))
+    ap (λ (lines : List TraceStep). answered_after b (plan_with small.row) (journal ∷ []) log 0 0 [] lines) (lines_of_round-small small)
+    ∙ answered-one b (plan_with small.row) (journal ∷ []) log replies carried [] [] refl (trace small) replies (lines-all_to_one small small.lines) refl (long ∙ sym (length-map small.lines trace_line))
 
 -- the lines where the journals and the log are so
-lines_there : (form : Form) (ran : Ran) (is : IsRecord form ran) →
-    report_lines (bundle_of form) data_plan data_layouts (journal_of ran.visits.items ran.settled ∷ []) (log_of ran.grown)
-    ≡ plain_lines form.type_name (map (numbered_line (names_of form.said)) form.said) ran
-lines_there form ran is =
-    let b = bundle_of form in
+lines_there : (small : Small) (layouts : List Layout) (ran : Ran) (is : IsRecord small ran) →
+    report_lines (bundle_of small) (plan_with small.row) layouts (journal_of ran.visits.items ran.settled ∷ []) (log_of small.row ran.grown)
+    ≡ plain_lines (bundle_of small) (plan_with small.row) layouts (trace small) ran
+lines_there small layouts ran is =
+    let b = bundle_of small in
+    let plan = plan_with small.row in
     let journal = journal_of ran.visits.items ran.settled in
-    let log = log_of ran.grown in
+    let log = log_of small.row ran.grown in
     let answers = ran.replies.items in
-    let steps = map (numbered_line (names_of form.said)) form.said in
-    let head = type_line (record { name = form.type_name; fields = [] }) (record { size = 16; align = 1; letters = codes "22" }) 16 0 in
-    let zone = zone_line 0 (record { bucket = None; submap = 4; shape = record { element = 16; count = 256; pages = 1 }; types = 1 }) in
-    let used = use_text form.type_name (count_of is_alloc steps answers) (count_of is_free steps answers) in
+    let steps = trace small in
+    let planned = plan_lines b plan layouts in
+    let used = use_text small.decl.name (count_of is_alloc steps answers) (count_of is_free steps answers) in
     let G : List ℕ → List (List ℕ) → List ℕ → List (List ℕ) → List (List ℕ) → List (List ℕ) = λ cpu replies used chunks visits.
-    codes "report 1" ∷ (head ∷ zone ∷ [] ++ ((cpu ∷ (replies ++ [])) ++ []) ++ used ∷ [] ++ (chunks ++ []) ++ (visits ++ []) ++ map ask_line log ++ codes "end" ∷ []) in
-    let answered = answered_lines b data_plan (journal ∷ []) log 0 0 in
+    codes "report 1" ∷ (planned ++ ((cpu ∷ (replies ++ [])) ++ []) ++ used ∷ [] ++ (chunks ++ []) ++ (visits ++ []) ++ map ask_line log ++ codes "end" ∷ []) in
+    let answered = answered_lines b plan (journal ∷ []) log 0 0 in
     let cpu = codes "cpu " ++ decimal 0 in
-    let chunks = map (chunk_line b data_plan log 0) (enumerate_from 0 (zone_chunks b data_plan (journal ∷ []) log 0)) in
+    let chunks = map (chunk_line b plan log 0) (enumerate_from 0 (zone_chunks b plan (journal ∷ []) log 0)) in
     let visits = zone_visits_lines b 0 journal in
-    let chunks_there : chunks ≡ chunk_lines ran.grown =
-    ap (λ (o : Option Course). map (chunk_line b data_plan log 0) (enumerate_from 0 (option_map_or (λ (c : Course). c.end.shared.chunks) o []))) (alone_there form ran is)
-    ∙ chunks_are form ran.grown is.course.end.shared.chunks is.chunks in
-    ap (λ (answered : List Answered). G cpu (round_lines b data_plan log answered) (use_line b (answered ++ [] ++ []) 0) chunks visits) (answered_there form ran is)
-    ∙ ap (λ (c : List ℕ). G (codes "cpu " ++ c) (round_lines b data_plan log (said_answers form answers)) (use_line b (said_answers form answers ++ [] ++ []) 0) chunks visits) zero_text
-    ∙ ap (λ (replies : List (List ℕ)). G (codes "cpu 0") replies (use_line b (said_answers form answers ++ [] ++ []) 0) chunks visits) (lines_of form ran.grown (names_of form.said) 11 form.said answers (answers_long form ran is))
-    ∙ ap (λ (u : List ℕ). G (codes "cpu 0") (map answer_line answers) u chunks visits) (use_of form answers)
-    ∙ ap (λ (chunks : List (List ℕ)). G (codes "cpu 0") (map answer_line answers) used chunks visits) chunks_there
-    ∙ ap (λ (visits : List (List ℕ)). G (codes "cpu 0") (map answer_line answers) used (chunk_lines ran.grown) visits) (visits_are form ran.visits.items ran.settled)
-    ∙ ap (λ (more : List (List ℕ)). codes "report 1" ∷ head ∷ zone ∷ codes "cpu 0" ∷ more)
-    (regrouped (map answer_line answers) (used ∷ []) (chunk_lines ran.grown) (visits_lines journal) (map ask_line log) (codes "end" ∷ []))
+    let chunks_there : chunks ≡ chunk_lines small.row ran.grown =
+    ap (λ (o : Option Course). map (chunk_line b plan log 0) (enumerate_from 0 (option_map_or (λ (c : Course). c.end.shared.chunks) o []))) (alone_there small ran is)
+    ∙ chunks_are small ran.grown is.course.end.shared.chunks is.chunks in
+    ap (λ (answered : List Answered). G cpu (round_lines b plan log answered) (use_line b (answered ++ [] ++ []) 0) chunks visits) (answered_there small ran is)
+    ∙ ap (λ (c : List ℕ). G (codes "cpu " ++ c) (round_lines b plan log (said_answers small answers)) (use_line b (said_answers small answers ++ [] ++ []) 0) chunks visits) zero_text
+    ∙ ap (λ (replies : List (List ℕ)). G (codes "cpu 0") replies (use_line b (said_answers small answers ++ [] ++ []) 0) chunks visits) (lines_of small ran.grown small.lines answers (answers_long small ran is))
+    ∙ ap (λ (u : List ℕ). G (codes "cpu 0") (map (answer_line small.row) answers) u chunks visits) (use_of small answers)
+    ∙ ap (λ (chunks : List (List ℕ)). G (codes "cpu 0") (map (answer_line small.row) answers) used chunks visits) chunks_there
+    ∙ ap (λ (visits : List (List ℕ)). G (codes "cpu 0") (map (answer_line small.row) answers) used (chunk_lines small.row ran.grown) visits) (visits_are small ran.visits.items ran.settled)
+    ∙ ap (λ (more : List (List ℕ)). codes "report 1" ∷ more)
+    (regrouped planned (codes "cpu 0") (map (answer_line small.row) answers) (used ∷ []) (chunk_lines small.row ran.grown) (visits_lines journal) (map ask_line log) (codes "end" ∷ []))
 
--- The report of a form and its record is its plain lines.
-pub report-plain : (form : Form) (ran : Ran) → IsRecord form ran →
-    replay_text (bundle_of form) ≡ text_of_lines (plain_lines form.type_name (map (numbered_line (names_of form.said)) form.said) ran)
-report-plain form ran is =
-    let b = bundle_of form in
-    let log = (order_run b data_plan).log in
-    ap (λ (journals : List (List Visit)). report_text b data_plan data_layouts journals log) is.journals
-    ∙ ap (λ (log : List SupplyEntry). report_text b data_plan data_layouts (journal_of ran.visits.items ran.settled ∷ []) log) is.log
-    ∙ ap text_of_lines (lines_there form ran is)
+-- the text of the report of the order's run, by a plan and layouts
+abbrev order_text : Bundle → Plan → List Layout → List ℕ
+order_text b plan layouts = let run = order_run b plan in report_text b plan layouts run.journals run.log
+
+plain_small : (small : Small) (layouts : List Layout) (ran : Ran) → IsRecord small ran →
+    order_text (bundle_of small) (plan_with small.row) layouts ≡ text_of_lines (plain_lines (bundle_of small) (plan_with small.row) layouts (trace small) ran)
+plain_small small layouts ran is =
+    let b = bundle_of small in
+    let plan = plan_with small.row in
+    let log = (order_run b plan).log in
+    ap (λ (journals : List (List Visit)). report_text b plan layouts journals log) is.journals
+    ∙ ap (λ (log : List SupplyEntry). report_text b plan layouts (journal_of ran.visits.items ran.settled ∷ []) log) is.log
+    ∙ ap text_of_lines (lines_there small layouts ran is)
+
+-- The report of a bundle of the built form and its record is its plain lines.
+pub report-plain : (b : Bundle) (plan : Plan) (layouts : List Layout) (small : Small) (ran : Ran) → IsPlanned b plan layouts → Is b plan small → IsRecord small ran →
+    text_of_lines (plain_lines b plan layouts (trace_of b 0) ran) ≡ replayed_text b
+report-plain b plan layouts small ran h is record_is =
+    let F : Bundle → Plan → List ℕ = λ b plan. text_of_lines (plain_lines b plan layouts (trace_of b 0) ran) in
+    ap (λ b. F b plan) is.is_bundle
+    ∙ ap (λ plan. F (bundle_of small) plan) is.is_plan
+    ∙ sym (plain_small small layouts ran record_is)
+    ∙ ap (λ b. order_text b (plan_with small.row) layouts) (sym is.is_bundle)
+    ∙ ap (λ plan. order_text b plan layouts) (sym is.is_plan ∙ h.is_plan)
+    ∙ ap (λ layouts. order_text b (plan_in b) layouts) h.are_layouts
+
+-- so a text of these lines is the report
+pub reported : (b : Bundle) (plan : Plan) (layouts : List Layout) (small : Small) (ran : Ran) (text : List ℕ) → IsPlanned b plan layouts → Is b plan small → IsRecord small ran →
+    text ≡ text_of_lines (plain_lines b plan layouts (trace_of b 0) ran) → text ≡ replayed_text b
+reported b plan layouts small ran text h is record_is e = e ∙ report-plain b plan layouts small ran h is record_is
 
 -- ---- what the code has to show
 
-name_byte : (b : ℕ) → is_name_byte b ≡ true → b < 128
-name_byte b e = grind (arith, nat_tests)
+pub record CanWrite (b : Bundle) (plan : Plan) : Type 0 where
+  pub types : 0 < length b.types
+  pub traces : 0 < length b.traces
+  pub zones : 0 < length plan.zones
+  pub fit : IsFitGeometry (zone_row plan 0).shape
+  pub submap : (zone_row plan 0).submap < 5
 
-name_bytes : (bs : List ℕ) → list_all is_name_byte bs ≡ true → IsAscii bs
-name_bytes [] e i = lit< tt
-name_bytes (b ∷ bs) e zero = name_byte b (both_first _ _ e)
-  where
-    both_first : (x y : Bool) → (x && y) ≡ true → x ≡ true
-    both_first true y e = refl
-    both_first false y e = absurd (cc)
-name_bytes (b ∷ bs) e (suc i) = name_bytes bs (both_second _ _ e) i
-  where
-    both_second : (x y : Bool) → (x && y) ≡ true → y ≡ true
-    both_second true y e = e
-    both_second false y e = absurd (cc)
-
-name_ascii : (bs : List ℕ) → IsTrue (is_name bs) → IsAscii bs
-name_ascii [] e = absurd (let f : false ≡ true = e in cc)
-name_ascii (b ∷ bs) e = name_bytes (b ∷ bs) (all_bytes (is_small b) (list_all is_name_byte bs) (nat_le (length bs) 31) e)
-  where
-    all_bytes : (small all few : Bool) → (small && all && few) ≡ true → ((small || is_between 48 57 b || (b == 95)) && all) ≡ true
-    all_bytes true true true e = refl
-    all_bytes true true false e = absurd (cc)
-    all_bytes true false few e = absurd (cc)
-    all_bytes false all few e = absurd (cc)
-
-pub is_text : (form : Form) → IsForm form → IsUtf8 form.type_name
-is_text form is = IsUtf8-from_ascii form.type_name (name_ascii form.type_name is.type_name)
-
--- the plain lines of what is kept are the report of each form that is kept so
-pub reported : (first : First) (ran : Ran) (name : List ℕ) (steps : List StepLine) (text : List ℕ) → name ≡ first.type_name → steps ≡ first.steps.items →
-    text ≡ text_of_lines (plain_lines name steps ran) → Reports first ran text
-reported first ran name steps text same_name same_steps e form is holds record_is =
-    e
-    ∙ ap (λ (name : List ℕ). text_of_lines (plain_lines name steps ran)) (same_name ∙ holds.type_name)
-    ∙ ap (λ (steps : List StepLine). text_of_lines (plain_lines form.type_name steps ran)) (same_steps ∙ holds.steps)
-    ∙ sym (report-plain form ran record_is)
-
--- a name that is no text is no form's
-pub not_reported : (first : First) (ran : Ran) (name text : List ℕ) → name ≡ first.type_name → (IsUtf8 name → ⊥) → Reports first ran text
-not_reported first ran name text same not_utf8 form is holds record_is =
-    absurd (not_utf8 (subst (λ (bs : List ℕ). IsUtf8 bs) (sym (same ∙ holds.type_name)) (is_text form is)))
+pub can_write : (b : Bundle) (plan : Plan) (small : Small) → Is b plan small → CanWrite b plan
+can_write b plan small is =
+    let P : Bundle → Plan → Type 0 = λ b plan. CanWrite b plan in
+    let here : CanWrite (bundle_of small) (plan_with small.row) = record { types = omega arith; traces = omega arith; zones = omega arith; fit = is.is_small.fit; submap = is.is_small.submap } in
+    subst (λ b. P b plan) (sym is.is_bundle) (subst (P (bundle_of small)) (sym is.is_plan) here)

@@ -1,11 +1,19 @@
 -- The bytes of a report's lines, as the code writes them.
-use Rattle.std.proofs.Common.{◌≡◌, ℕ, zero, suc, ◌+◌, ◌<◌, ◌≤◌, ◌⊎◌, inl, inr, min, Result, Ok, Err, IfOk, OnOk, is_ok, ◌==◌, nat_lt, Bool, true, false, if◌then◌else◌, List, [], ◌∷◌, ◌++◌, length, drop, map, codes, decimal, refl, ap, sym, ◌∙◌, arith, append_assoc}
+use Rattle.std.proofs.Common.{◌≡◌, ℕ, zero, suc, ◌+◌, ◌<◌, ◌≤◌, ◌⊎◌, inl, inr, min, ◌==◌, slice_index_or, nat_lt, Bool, true, false, if◌then◌else◌, List, [], ◌∷◌, ◌++◌, length, drop, map, codes, decimal, refl, ap, sym, ◌∙◌, arith, append_assoc}
 use Rattle.std.specs.Fmt.{digits}
 use Rattle.std.specs.List.{flat_map}
 use Rattle.std.proofs.lemmas.List.{append-nil}
 use Rattle.std.proofs.lemmas.Grind.{flat_map-append}
-use Rattle.kz_model.specs.Text.{ask_line, visit_text, visits_line, text_of_lines}
-use Rattle.kz_top.specs.declared.form.StepLine.{StepLine}
+use Rattle.kz_model.specs.declared.bundle.Act.{Act}
+use Rattle.kz_model.specs.declared.bundle.Bundle.{Bundle}
+use Rattle.kz_model.specs.declared.bundle.TraceStep.{TraceStep}
+use Rattle.kz_model.specs.declared.record.Layout.{Layout}
+use Rattle.kz_model.specs.declared.record.Plan.{Plan}
+use Rattle.kz_model.specs.declared.record.ZoneRow.{ZoneRow}
+use Rattle.kz_model.specs.Journal.{zone_row}
+use Rattle.kz_model.specs.Report.{plan_lines, no_type}
+use Rattle.kz_model.specs.Supply.{address}
+use Rattle.kz_model.specs.Text.{hex, ask_line, visit_text, visits_line, text_of_lines}
 use Rattle.kz_top.specs.declared.machine.Answer.{Answer}
 use Rattle.kz_top.specs.declared.machine.Ran.{Ran}
 use Rattle.kz_top.specs.OneZone.{visit_of, journal_of, log_of}
@@ -13,30 +21,34 @@ use Rattle.kz_top.specs.Lines.{head_lines, answer_line, is_alloc, is_free, count
 
 -- ---- lines that vary little
 
-head_regrouped : (p x name a b c d e f g h i j k rest : List ℕ) →
-    (p ++ x) ++ (name ++ (a ++ (b ++ (c ++ (d ++ (e ++ (f ++ (g ++ (h ++ (i ++ (j ++ (k ++ rest))))))))))))
-    ≡ p ++ ((x ++ name ++ a ++ b ++ c ++ d ++ e ++ f ++ g ++ h ++ i ++ j ++ k) ++ rest)
-head_regrouped p x name a b c d e f g h i j k rest = simp append_assoc
+chunk_regrouped : (front address back : List ℕ) → front ++ (address ++ (back ++ codes "\n")) ≡ (front ++ address ++ back) ++ codes "\n" ++ []
+chunk_regrouped front address back = simp (append_assoc, append-nil)
 
-pub head_text : (name : List ℕ) →
-    codes "report 1\ntype " ++ (name ++ codes " size 16 align 1 letters 22 class 16 zone 0\nzone 0 data.16 element 16 count 256 pages 1 submap D types 1\ncpu 0\n")
-    ≡ text_of_lines (head_lines name)
-unfolding digits
-head_text name =
-    head_regrouped (codes "report 1\n") (codes "type ") name (codes " size ") (decimal 16) (codes " align ") (decimal 1) (codes " letters ") (codes "22") (codes " class ") (decimal 16) (codes " zone ") (decimal 0) (10 ∷ [])
-    (codes "zone 0 data.16 element 16 count 256 pages 1 submap D types 1\ncpu 0\n")
-
-pub chunk_text : (bs : List ℕ) → bs ++ codes "chunk 0 0 0x50000000000 mapped\n" ≡ bs ++ text_of_lines (chunk_lines true)
-unfolding digits
-chunk_text bs = refl
-
-pub ask_text : (bs : List ℕ) → bs ++ codes "ask 0 chunk 1 base 0\n" ≡ bs ++ text_of_lines (map ask_line (log_of true))
-unfolding digits
-ask_text bs = refl
+pub chunk_text : (row : ZoneRow) → codes "chunk 0 0 " ++ (hex (address row.submap 0 row.shape.element (record { chunk = 0; index = 0 })) ++ codes " mapped\n") ≡ text_of_lines (chunk_lines row true)
+chunk_text row = chunk_regrouped (codes "chunk 0 0 ") (hex (address row.submap 0 row.shape.element (record { chunk = 0; index = 0 }))) (codes " mapped")
 
 pub zero_text : decimal 0 ≡ codes "0"
 unfolding digits
 zero_text = refl
+
+ask_regrouped : (front pages base last : List ℕ) → front ++ (pages ++ (base ++ (last ++ codes "\n"))) ≡ (front ++ (pages ++ base ++ last)) ++ codes "\n" ++ []
+ask_regrouped front pages base last = simp (append_assoc, append-nil)
+
+pub ask_text : (row : ZoneRow) → codes "ask 0 chunk " ++ (decimal row.shape.pages ++ codes " base 0\n") ≡ text_of_lines (map ask_line (log_of row true))
+ask_text row =
+    let F : List ℕ → List ℕ = λ page. (codes "ask " ++ page ++ codes " " ++ (codes "chunk " ++ decimal row.shape.pages ++ codes " base " ++ page)) ++ codes "\n" ++ [] in
+    ask_regrouped (codes "ask 0 chunk ") (decimal row.shape.pages) (codes " base ") (codes "0") ∙ ap F (sym zero_text)
+
+head_regrouped : (bs first : List ℕ) (lines : List (List ℕ)) (last : List ℕ) → bs ++ (first ++ codes "\n") ++ text_of_lines lines ++ (last ++ codes "\n") ≡ bs ++ ((first ++ codes "\n") ++ (text_of_lines lines ++ ((last ++ codes "\n") ++ [])))
+head_regrouped bs first lines last = simp (append_assoc, append-nil)
+
+-- the lines before the replies, piece by piece
+pub head_text : (b : Bundle) (plan : Plan) (layouts : List Layout) (bs s1 s2 : List ℕ) → s1 ≡ bs ++ codes "report 1\n" → s2 ≡ s1 ++ text_of_lines (plan_lines b plan layouts) →
+    s2 ++ codes "cpu 0\n" ≡ bs ++ text_of_lines (head_lines b plan layouts)
+head_text b plan layouts bs s1 s2 e1 e2 =
+    ap (λ s. s ++ codes "cpu 0\n") (e2 ∙ ap (λ s. s ++ text_of_lines (plan_lines b plan layouts)) e1)
+    ∙ head_regrouped bs (codes "report 1") (plan_lines b plan layouts) (codes "cpu 0")
+    ∙ ap (λ t. bs ++ (codes "report 1\n" ++ t)) (sym (flat_map-append (λ (line : List ℕ). line ++ 10 ∷ []) (plan_lines b plan layouts) (codes "cpu 0" ∷ [])))
 
 -- ---- the visits
 
@@ -84,28 +96,18 @@ some_visit none n settled test either = elim either [ inl h ↦ grind (arith, h.
 -- ---- the counts
 
 -- past the shorter list nothing is left to count
-pub count_past : (test : StepLine → Answer → Bool) (steps : List StepLine) (answers : List Answer) (i : ℕ) → min (length steps) (length answers) ≤ i → count_of test (drop i steps) (drop i answers) ≡ 0
+pub count_past : (test : Act → Answer → Bool) (steps : List TraceStep) (answers : List Answer) (i : ℕ) → min (length steps) (length answers) ≤ i → count_of test (drop i steps) (drop i answers) ≡ 0
 count_past test [] answers i past = elim i as (λ i. count_of test (drop i []) (drop i answers) ≡ 0) [ zero ↦ refl | suc i ↦ refl ]
 count_past test (s ∷ steps) [] zero past = refl
 count_past test (s ∷ steps) [] (suc i) past = by_steps (drop i steps)
   where
-    by_steps : (steps : List StepLine) → count_of test steps [] ≡ 0
+    by_steps : (steps : List TraceStep) → count_of test steps [] ≡ 0
     by_steps [] = refl
     by_steps (s ∷ steps) = refl
 count_past test (s ∷ steps) (a ∷ answers) zero past = absurd (omega arith)
 count_past test (s ∷ steps) (a ∷ answers) (suc i) past = count_past test steps answers i (omega arith)
 
 -- ---- results, and one text after another
-
--- what holds of a result's value, and what follows
-pub if_ok : {T E : Type 0} (r : Result T E) (P Q : T → Type 0) → ((x : T) → P x → Q x) → IfOk r P → IfOk r Q
-if_ok (Ok x) P Q f h = f x h
-if_ok (Err e) P Q f h = tt
-
--- what a last call that appends says
-pub pushed : {T E : Type 0} (r : Result T E) (s a b : List ℕ) → s ≡ (if is_ok r then a else b) → OnOk r (s ≡ a)
-pushed (Ok x) s a b e = e
-pushed (Err e) s a b f = tt
 
 -- four pieces in turn
 pub four_more : (bs s1 s2 s3 a b c d : List ℕ) → s1 ≡ bs ++ a → s2 ≡ s1 ++ b → s3 ≡ s2 ++ c → s3 ++ d ≡ bs ++ (a ++ b ++ c ++ d)
@@ -119,34 +121,39 @@ pub then_line : (s t : List ℕ) (xs : List (List ℕ)) (line : List ℕ) → s 
 then_line s t xs line before e = then_lines s t xs (line ∷ []) before (e ∙ ap (λ l. s ++ l) (sym (append-nil (line ++ codes "\n"))))
 
 -- the whole, piece by piece
-pub whole_text : (name : List ℕ) (steps : List StepLine) (ran : Ran) (answers others : List Answer) (visits : List ℕ) (allocs frees : ℕ) (s0 s1 s2 s3 s4 s5 s6 s7 : List ℕ) →
-    answers ≡ ran.replies.items → others ≡ ran.replies.items → visits ≡ ran.visits.items → allocs ≡ count_of is_alloc steps others → frees ≡ count_of is_free steps others →
-    s0 ≡ [] → s1 ≡ s0 ++ text_of_lines (head_lines name) → s2 ≡ s1 ++ text_of_lines (map answer_line answers) → s3 ≡ s2 ++ (use_text name allocs frees ++ codes "\n") →
-    s4 ≡ s3 ++ text_of_lines (chunk_lines ran.grown) → s5 ≡ s4 ++ text_of_lines (visits_lines (journal_of visits ran.settled)) → s6 ≡ s5 ++ text_of_lines (map ask_line (log_of ran.grown)) →
-    s7 ≡ s6 ++ codes "end\n" → s7 ≡ text_of_lines (plain_lines name steps ran)
-whole_text name steps ran answers others visits allocs frees s0 s1 s2 s3 s4 s5 s6 s7 same also there is_allocs is_frees e0 e1 e2 e3 e4 e5 e6 e7 =
+pub whole_text : (b : Bundle) (plan : Plan) (layouts : List Layout) (steps trace : List TraceStep) (ran : Ran) (row : ZoneRow) (name : List ℕ) (answers others : List Answer) (visits : List ℕ) (allocs frees : ℕ) (s0 s1 s2 s3 s4 s5 s6 s7 : List ℕ) →
+    row ≡ zone_row plan 0 → trace ≡ steps → name ≡ (slice_index_or b.types 0 no_type).name →
+    answers ≡ ran.replies.items → others ≡ ran.replies.items → visits ≡ ran.visits.items → allocs ≡ count_of is_alloc trace others → frees ≡ count_of is_free trace others →
+    s0 ≡ [] → s1 ≡ s0 ++ text_of_lines (head_lines b plan layouts) → s2 ≡ s1 ++ text_of_lines (map (answer_line row) answers) → s3 ≡ s2 ++ (use_text name allocs frees ++ codes "\n") →
+    s4 ≡ s3 ++ text_of_lines (chunk_lines row ran.grown) → s5 ≡ s4 ++ text_of_lines (visits_lines (journal_of visits ran.settled)) → s6 ≡ s5 ++ text_of_lines (map ask_line (log_of row ran.grown)) →
+    s7 ≡ s6 ++ codes "end\n" → s7 ≡ text_of_lines (plain_lines b plan layouts steps ran)
+whole_text b plan layouts steps trace ran row name answers others visits allocs frees s0 s1 s2 s3 s4 s5 s6 s7 is_row is_trace is_name same also there is_allocs is_frees e0 e1 e2 e3 e4 e5 e6 e7 =
+    let here = zone_row plan 0 in
     let replies = ran.replies.items in
-    let F : ℕ → ℕ → List ℕ = λ allocs frees. s2 ++ (use_text name allocs frees ++ codes "\n") in
-    let uses : s3 ≡ F (count_of is_alloc steps replies) (count_of is_free steps replies) =
+    let called = (slice_index_or b.types 0 no_type).name in
+    let head = head_lines b plan layouts in
+    let F : List ℕ → ℕ → ℕ → List ℕ = λ name allocs frees. s2 ++ (use_text name allocs frees ++ codes "\n") in
+    let uses : s3 ≡ F called (count_of is_alloc steps replies) (count_of is_free steps replies) =
     e3
-    ∙ ap (λ allocs. F allocs frees) (is_allocs ∙ ap (λ (xs : List Answer). count_of is_alloc steps xs) also)
-    ∙ ap (λ frees. F (count_of is_alloc steps replies) frees) (is_frees ∙ ap (λ (xs : List Answer). count_of is_free steps xs) also) in
-    let used = use_text name (count_of is_alloc steps replies) (count_of is_free steps replies) in
-    let lines1 = head_lines name ++ map answer_line replies in
+    ∙ ap (λ name. F name allocs frees) is_name
+    ∙ ap (λ allocs. F called allocs frees) (is_allocs ∙ ap (λ (xs : List Answer). count_of is_alloc trace xs) also ∙ ap (λ (xs : List TraceStep). count_of is_alloc xs replies) is_trace)
+    ∙ ap (λ frees. F called (count_of is_alloc steps replies) frees) (is_frees ∙ ap (λ (xs : List Answer). count_of is_free trace xs) also ∙ ap (λ (xs : List TraceStep). count_of is_free xs replies) is_trace) in
+    let used = use_text called (count_of is_alloc steps replies) (count_of is_free steps replies) in
+    let lines1 = head ++ map (answer_line here) replies in
     let lines2 = lines1 ++ used ∷ [] in
-    let lines3 = lines2 ++ chunk_lines ran.grown in
+    let lines3 = lines2 ++ chunk_lines here ran.grown in
     let visited = visits_lines (journal_of ran.visits.items ran.settled) in
-    let asked = map ask_line (log_of ran.grown) in
+    let asked = map ask_line (log_of here ran.grown) in
     then_line s6 s7 (lines3 ++ visited ++ asked) (codes "end")
     (then_lines s5 s6 (lines3 ++ visited) asked
     (then_lines s4 s5 lines3 visited
-    (then_lines s3 s4 lines2 (chunk_lines ran.grown)
+    (then_lines s3 s4 lines2 (chunk_lines here ran.grown)
     (then_line s2 s3 lines1 used
-    (then_lines s1 s2 (head_lines name) (map answer_line replies)
-    (e1 ∙ ap (λ s. s ++ text_of_lines (head_lines name)) e0)
-    (e2 ∙ ap (λ (xs : List Answer). s1 ++ text_of_lines (map answer_line xs)) same))
+    (then_lines s1 s2 head (map (answer_line here) replies)
+    (e1 ∙ ap (λ s. s ++ text_of_lines head) e0)
+    (e2 ∙ ap (λ (xs : List Answer). s1 ++ text_of_lines (map (answer_line row) xs)) same ∙ ap (λ (row : ZoneRow). s1 ++ text_of_lines (map (answer_line row) replies)) is_row))
     uses)
-    e4)
+    (e4 ∙ ap (λ (row : ZoneRow). s3 ++ text_of_lines (chunk_lines row ran.grown)) is_row))
     (e5 ∙ ap (λ (xs : List ℕ). s4 ++ text_of_lines (visits_lines (journal_of xs ran.settled))) there))
-    e6)
+    (e6 ∙ ap (λ (row : ZoneRow). s5 ++ text_of_lines (map ask_line (log_of row ran.grown))) is_row))
     e7

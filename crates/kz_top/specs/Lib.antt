@@ -1,11 +1,8 @@
-pub mod Form
-pub mod Said
-pub mod Survey
-pub mod Table
-pub mod Read
+pub mod Built
+pub mod Steps
+pub mod Small
 pub mod OneZone
 pub mod OneStep
 pub mod Machine
 pub mod Lines
 pub mod Call
-pub mod Laws

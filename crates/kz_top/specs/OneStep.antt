@@ -16,8 +16,8 @@ abbrev pub one_cpu : Shared → Own → ZoneState
 one_cpu s own = record { shared = s; own = own ∷ [] }
 
 -- what a step asks where the zone grows, and the answer
-abbrev pub growth_asks : Bool → List Ask
-growth_asks grows = if grows then Chunk 4 1 ∷ [] else []
+abbrev pub growth_asks : ZoneParams → Bool → List Ask
+growth_asks p grows = if grows then Chunk p.submap p.pages ∷ [] else []
 
 abbrev pub growth_answers : Bool → List Answer
 growth_answers grows = if grows then Base 0 ∷ [] else []
@@ -25,7 +25,7 @@ growth_answers grows = if grows then Base 0 ∷ [] else []
 -- Whether the step needs a visit and lets the zone grow, its reply, and what there is after it.
 pub record Does (p : ZoneParams) (s : Shared) (own : Own) (step : Step) (visit grows : Bool) (reply : Reply) (next : Shared) (mine : Own) : Type 0 where
   pub needs : needs_visit p own step ≡ visit
-  pub asks : asks_of p s 0 own step ≡ growth_asks grows
+  pub asks : asks_of p s 0 own step ≡ growth_asks p grows
   pub effect : effect_of p s 0 own step (growth_answers grows) ≡ record { reply = reply; shared = next; own = mine }
 
 -- the bindings by the names' numbers

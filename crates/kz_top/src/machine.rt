@@ -6,16 +6,19 @@ ghost use Rattle.kz_model.specs.Rules.{newest, below_newest, is_held as held, re
 ghost use Rattle.kz_model.specs.Whole.{AreAway};
 ghost use Rattle.kz_zone.specs.Zone.{Shows, GrowsAtMostOnce, shared_of};
 ghost use Rattle.kz_zone.specs.Room.{IsFit};
-ghost use Rattle.kz_top.specs.Form.{Form, IsForm, Holds};
-ghost use Rattle.kz_top.specs.OneZone.{IsRecord, data_params};
-ghost use Rattle.kz_top.specs.Machine.{IsAt, Moves, CanAllocate, IsSomewhere, CanDo, step_of_line, name_of_line, IsOfAForm};
+ghost use Rattle.kz_model.specs.declared.record.ZoneRow.{ZoneRow};
+ghost use Rattle.kz_model.specs.Class.{IsFitGeometry};
+ghost use Rattle.kz_top.specs.Small.{Small, Is, IsBuilt, params_with, name_of_line};
+ghost use Rattle.kz_top.specs.OneZone.{IsRecord};
+ghost use Rattle.kz_top.specs.Machine.{IsAt, Moves, CanAllocate, IsSomewhere, CanDo, step_of_line, AreOf};
 
-use crate::form::{First, StepLine};
-use kz_model::{Block, Bound, Items, Room, Seed, ZoneParams};
+use crate::first::{first_trace, first_zone};
+use crate::lines::{StepLine, line_at};
+use kz_model::{Block, Bound, Bundle, Items, Plan, Room, Seed, Trace, ZoneParams, ZoneRow};
 use kz_zone::{Pair, Zone};
 use std::alloc::{AllocError, Global};
 
-/// The reply to a step line of the first form.
+/// The reply to a step line of the built form.
 #[derive(Clone, Copy, Debug, PartialEq, Eq)]
 pub enum Answer {
     Block { block: Block },
@@ -25,7 +28,7 @@ pub enum Answer {
     NotHeld,
 }
 
-/// What a run of the first form made.
+/// What a run of the built form made.
 #[derive(Drop)]
 pub struct Ran {
     /// The replies, line by line.
@@ -156,7 +159,7 @@ impl Machine {
         requires few { self.old.late < 1000000 }
         requires room { vec_len self.old.visits < vec_capacity self.old.visits }
         requires can { CanAllocate self.old }
-        ensures moves { (s : Shared) (own : Own) (grown : Bool) → IsAt self.old s own grown → Moves self.old (Alloc name) result self.new s own grown }
+        ensures moves { (row : ZoneRow) (s : Shared) (own : Own) (grown : Bool) → IsAt row self.old s own grown → Moves row self.old (Alloc name) result self.new s own grown }
         ensures names { vec_len self.new.bound ≡ vec_len self.old.bound }
         ensures late { self.new.late ≤ self.old.late + 1 }
         ensures visits { vec_len self.new.visits ≤ vec_len self.old.visits + 1 }
@@ -181,7 +184,7 @@ impl Machine {
         requires few { self.old.late < 1000000 }
         requires room { vec_len self.old.visits < vec_capacity self.old.visits }
         requires somewhere { IsSomewhere self.old }
-        ensures moves { (s : Shared) (own : Own) (grown : Bool) → IsAt self.old s own grown → Moves self.old (FreeStep name None) result self.new s own grown }
+        ensures moves { (row : ZoneRow) (s : Shared) (own : Own) (grown : Bool) → IsAt row self.old s own grown → Moves row self.old (FreeStep name None) result self.new s own grown }
         ensures names { vec_len self.new.bound ≡ vec_len self.old.bound }
         ensures late { self.new.late ≤ self.old.late + 1 }
         ensures visits { vec_len self.new.visits ≤ vec_len self.old.visits + 1 }
@@ -212,7 +215,7 @@ impl Machine {
         requires few { self.old.late < 1000000 }
         requires room { vec_len self.old.visits < vec_capacity self.old.visits }
         requires can { CanDo self.old step }
-        ensures moves { (s : Shared) (own : Own) (grown : Bool) → IsAt self.old s own grown → Moves self.old (step_of_line step) result self.new s own grown }
+        ensures moves { (row : ZoneRow) (s : Shared) (own : Own) (grown : Bool) → IsAt row self.old s own grown → Moves row self.old (step_of_line step) result self.new s own grown }
         ensures names { vec_len self.new.bound ≡ vec_len self.old.bound }
         ensures late { self.new.late ≤ self.old.late + 1 }
         ensures visits { vec_len self.new.visits ≤ vec_len self.old.visits + 1 }
@@ -225,15 +228,17 @@ impl Machine {
     }
 
     /// The machine before its first step, with room for the visits of so many steps.
-    fn boot(alloc: Global, names: usize, steps: u32) -> Result<Machine, AllocError>
-        requires { steps ≤ 1000000 }
-        ensures at { IfOk result (λ machine. IsAt machine nothing_shared nothing_own false) }
+    fn boot(alloc: Global, names: usize, row: ZoneRow, steps: u32) -> Result<Machine, AllocError>
+        requires steps { steps ≤ 1000000 }
+        requires fit { IsFitGeometry row.shape }
+        requires submap { row.submap < 5 }
+        ensures at { IfOk result (λ machine. IsAt row machine nothing_shared nothing_own false) }
         ensures names { IfOk result (λ machine. vec_len machine.bound ≡ names) }
         ensures visits { IfOk result (λ machine. machine.visits.items ≡ []) }
         ensures room { IfOk result (λ machine. steps ≤ vec_capacity machine.visits) }
         ensures late { IfOk result (λ machine. machine.late ≡ 0) }
     {
-        let room = data_room(alloc, steps)?;
+        let room = room_of(alloc, row, steps)?;
         let zone = Zone::new(alloc, &room)?;
         let pair = Pair::new(alloc, MAGAZINE)?;
         let bound = vec![in alloc; None; names]?;
@@ -271,22 +276,24 @@ impl Machine {
     }
 }
 
-/// The room of the one data zone, for so many steps.
-fn data_room(alloc: Global, steps: u32) -> Result<Room, AllocError>
-    requires { steps ≤ 1000000 }
+/// The room of the one zone, for so many steps.
+fn room_of(alloc: Global, row: ZoneRow, steps: u32) -> Result<Room, AllocError>
+    requires steps { steps ≤ 1000000 }
+    requires fit { IsFitGeometry row.shape }
+    requires submap { row.submap < 5 }
     ensures fit { IfOk result IsFit }
-    ensures params { IfOk result (λ room. room.params ≡ data_params) }
+    ensures params { IfOk result (λ room. room.params ≡ params_with row) }
 {
     let params = ZoneParams {
         zone: 0,
-        element: 16,
-        count: 256,
-        pages: 1,
+        element: row.shape.element,
+        count: row.shape.count,
+        pages: row.shape.pages,
         cpus: 1,
         magazine: MAGAZINE,
         depot: 1,
         seed: Seed::Plain,
-        submap: 4,
+        submap: row.submap,
     };
     let count = steps;
     let steps = vec![in alloc; count]?;
@@ -308,16 +315,29 @@ fn push_within(replies: &mut Vec<Answer>, reply: Answer)
     let _ = replies.push(reply);
 }
 
-/// Runs a bundle's steps in their order.
-pub fn replay(alloc: Global, first: &First) -> Result<Ran, AllocError>
-    requires { IsOfAForm first.now }
-    ensures { (form : Form) → IsForm form → Holds first.now form → IfOk result (IsRecord form) }
+/// Runs the lines of a trace in their order.
+fn run(alloc: Global, names: usize, row: ZoneRow, trace: &Trace) -> Result<Ran, AllocError>
+    requires { (small : Small) × AreOf names row trace.now small }
+    ensures { (small : Small) → AreOf names row trace.now small → IfOk result (IsRecord small) }
 {
-    let count = first.steps.len();
-    let mut machine = Machine::boot(alloc, first.names.len(), count as u32)?;
+    let count = trace.len();
+    let mut machine = Machine::boot(alloc, names, row, count as u32)?;
     let mut replies = Vec::with_capacity(alloc, count)?;
-    for step in &first.steps {
-        push_within(&mut replies, machine.step(*step));
+    for at in 0..count {
+        push_within(&mut replies, machine.step(line_at(trace, at)));
     }
     Ok(machine.finish(replies))
+}
+
+/// Runs the steps of a bundle of the built form in their order.
+pub fn replay(alloc: Global, bundle: &Bundle, plan: &Plan) -> Result<Ran, AllocError>
+    requires { IsBuilt bundle.now plan.now }
+    ensures { (small : Small) → Is bundle.now plan.now small → IfOk result (IsRecord small) }
+{
+    run(
+        alloc,
+        bundle.names.len(),
+        first_zone(plan),
+        first_trace(bundle),
+    )
 }

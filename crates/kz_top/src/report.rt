@@ -1,40 +1,66 @@
 //! The text of a report.
-ghost use Rattle.std.specs.Prelude.{◌≡◌, ◌++◌, [], false, if◌then◌else◌, codes, map, Some, IfOk, OnOk};
+ghost use Rattle.std.specs.Prelude.{◌≡◌, ◌<◌, ◌≤◌, ◌++◌, [], false, if◌then◌else◌, codes, length, map, Some, IfOk, OnOk};
 ghost use Rattle.std.specs.List.{flat_map};
 ghost use Rattle.std.specs.String.{string_bytes};
+ghost use Rattle.kz_model.specs.Class.{IsFitGeometry};
+ghost use Rattle.kz_model.specs.Journal.{zone_row, trace_of};
 ghost use Rattle.kz_model.specs.Supply.{address};
 ghost use Rattle.kz_model.specs.Text.{hex, visit_text, text_of_lines, ask_line};
-ghost use Rattle.kz_top.specs.OneZone.{visit_of, journal_of, log_of};
-ghost use Rattle.kz_top.specs.Lines.{head_lines, answer_line, is_alloc, is_free, count_of, use_text, chunk_lines, visits_lines, plain_lines, Reports};
+ghost use Rattle.kz_model.specs.Valid.{replayed_text};
+ghost use Rattle.kz_top.specs.Small.{Small, Is, IsBuilt, IsPlanned};
+ghost use Rattle.kz_top.specs.OneZone.{IsRecord, visit_of, journal_of, log_of};
+ghost use Rattle.kz_top.specs.Lines.{AreText, head_lines, answer_line, is_alloc, is_free, count_of, use_text, chunk_lines, visits_lines, plain_lines};
 
-use crate::form::{First, StepLine};
+use crate::first::{first_trace, first_zone};
 use crate::machine::{Answer, Ran};
-use kz_model::Block;
+use crate::planned::{from_ascii, write_plan_lines};
+use kz_model::{Act, Block, Bundle, Layout, Plan, Trace, ZoneRow};
 use std::alloc::{AllocError, Global};
 use std::fmt;
-use std::str::from_utf8;
 
-/// The text of the report.
-pub fn report(alloc: Global, first: &First, ran: &Ran) -> Result<String, AllocError>
-    ensures { IfOk result (λ text. Reports first.now ran.now (string_bytes text)) }
+/// The text of the report of a bundle of the built form.
+pub fn report(
+    alloc: Global,
+    bundle: &Bundle,
+    plan: &Plan,
+    layouts: &[Layout],
+    ran: &Ran,
+) -> Result<String, AllocError>
+    requires planned { IsPlanned bundle.now plan.now layouts.now }
+    requires built { IsBuilt bundle.now plan.now }
+    ensures { (small : Small) → Is bundle.now plan.now small → IsRecord small ran.now → IfOk result (λ text. string_bytes text ≡ replayed_text bundle.now) }
 {
-    match from_utf8(first.type_name.as_slice()) {
-        Ok(name) => text_of(alloc, name, &first.steps, ran),
-        // A form's name is of letters, digits and `_`.
-        Err(_) => Ok(String::new(alloc)),
-    }
+    text_of(alloc, bundle, plan, layouts, ran)
 }
 
-fn text_of(alloc: Global, name: &str, steps: &[StepLine], ran: &Ran) -> Result<String, AllocError>
-    ensures { IfOk result (λ text. string_bytes text ≡ text_of_lines (plain_lines name.now steps.now ran.now)) }
+fn text_of(
+    alloc: Global,
+    bundle: &Bundle,
+    plan: &Plan,
+    layouts: &[Layout],
+    ran: &Ran,
+) -> Result<String, AllocError>
+    requires text { AreText bundle.now plan.now layouts.now }
+    requires types { 0 < length bundle.now.types }
+    requires traces { 0 < length bundle.now.traces }
+    requires zones { 0 < length plan.now.zones }
+    requires fit { IsFitGeometry (zone_row plan.now 0).shape }
+    requires submap { (zone_row plan.now 0).submap < 5 }
+    ensures { IfOk result (λ text. string_bytes text ≡ text_of_lines (plain_lines bundle.now plan.now layouts.now (trace_of bundle.now 0) ran.now)) }
 {
+    let row = first_zone(plan);
+    let trace = first_trace(bundle);
     let mut out = String::with_capacity(alloc, room_for(ran.replies.len()))?;
-    write_head(&mut out, name)?;
-    write_answers(&mut out, &ran.replies)?;
-    write_use(&mut out, name, uses_of(steps, &ran.replies))?;
-    write_chunk(&mut out, ran.grown)?;
+    write_head(&mut out, bundle, plan, layouts)?;
+    write_answers(&mut out, row, &ran.replies)?;
+    write_use(
+        &mut out,
+        from_ascii(bundle.types.name(0)),
+        uses_of(trace, &ran.replies),
+    )?;
+    write_chunk(&mut out, row, ran.grown)?;
     write_visits(&mut out, &ran.visits, ran.settled)?;
-    write_ask(&mut out, ran.grown)?;
+    write_ask(&mut out, row, ran.grown)?;
     out.push_str("end\n")?;
     Ok(out)
 }
@@ -44,29 +70,38 @@ fn room_for(replies: usize) -> usize {
     replies.saturating_mul(9).saturating_add(16384)
 }
 
-fn write_head(out: &mut String, name: &str) -> Result<(), AllocError>
-    ensures { OnOk result (string_bytes out.new ≡ string_bytes out.old ++ text_of_lines (head_lines name.now)) }
+fn write_head(
+    out: &mut String,
+    bundle: &Bundle,
+    plan: &Plan,
+    layouts: &[Layout],
+) -> Result<(), AllocError>
+    requires { AreText bundle.now plan.now layouts.now }
+    ensures { OnOk result (string_bytes out.new ≡ string_bytes out.old ++ text_of_lines (head_lines bundle.now plan.now layouts.now)) }
 {
-    write!(
-        out,
-        "report 1\ntype {name} size 16 align 1 letters 22 class 16 zone 0\nzone 0 data.16 element 16 count 256 pages 1 submap D types 1\ncpu 0\n"
-    )
+    out.push_str("report 1\n")?;
+    write_plan_lines(out, bundle, plan, layouts)?;
+    out.push_str("cpu 0\n")
 }
 
-fn write_answers(out: &mut String, answers: &[Answer]) -> Result<(), AllocError>
-    ensures { OnOk result (string_bytes out.new ≡ string_bytes out.old ++ text_of_lines (map answer_line answers.now)) }
+fn write_answers(out: &mut String, row: ZoneRow, answers: &[Answer]) -> Result<(), AllocError>
+    requires submap { row.submap < 5 }
+    requires element { row.shape.element ≤ 8192 }
+    ensures { OnOk result (string_bytes out.new ≡ string_bytes out.old ++ text_of_lines (map (answer_line row) answers.now)) }
 {
     for answer in answers {
-        write_answer(out, *answer)?;
+        write_answer(out, row, *answer)?;
     }
     Ok(())
 }
 
-fn write_answer(out: &mut String, answer: Answer) -> Result<(), AllocError>
-    ensures { OnOk result (string_bytes out.new ≡ string_bytes out.old ++ (answer_line answer ++ codes "\n")) }
+fn write_answer(out: &mut String, row: ZoneRow, answer: Answer) -> Result<(), AllocError>
+    requires submap { row.submap < 5 }
+    requires element { row.shape.element ≤ 8192 }
+    ensures { OnOk result (string_bytes out.new ≡ string_bytes out.old ++ (answer_line row answer ++ codes "\n")) }
 {
     match answer {
-        Answer::Block { block } => write_block(out, block),
+        Answer::Block { block } => write_block(out, row, block),
         Answer::Done => out.push_str("done\n"),
         Answer::NameBusy => out.push_str("busy\n"),
         Answer::NoName => out.push_str("no name\n"),
@@ -87,21 +122,27 @@ impl fmt::Display for Address {
     }
 }
 
-/// Where the data zone begins.
-const DATA_START: u64 = 0x500_0000_0000;
+/// The bytes between the starts of two submaps.
+const SUBMAP: u64 = 0x100_0000_0000;
 
-fn address_of(block: Block) -> Address
-    ensures { result.0 ≡ address 4 0 16 block }
+/// The address of a block of the zone's one chunk, which begins at its submap's first page.
+fn address_of(row: ZoneRow, block: Block) -> Address
+    requires submap { row.submap < 5 }
+    requires element { row.shape.element ≤ 8192 }
+    ensures { result.0 ≡ address row.submap 0 row.shape.element block }
 {
-    Address(DATA_START + u64::from(block.index) * 16)
+    let start = SUBMAP * (u64::from(row.submap) + 1);
+    Address(start + u64::from(block.index) * u64::from(row.shape.element))
 }
 
-fn write_block(out: &mut String, block: Block) -> Result<(), AllocError>
-    ensures { OnOk result (string_bytes out.new ≡ string_bytes out.old ++ (answer_line (Answer.Block block) ++ codes "\n")) }
+fn write_block(out: &mut String, row: ZoneRow, block: Block) -> Result<(), AllocError>
+    requires submap { row.submap < 5 }
+    requires element { row.shape.element ≤ 8192 }
+    ensures { OnOk result (string_bytes out.new ≡ string_bytes out.old ++ (answer_line row (Answer.Block block) ++ codes "\n")) }
 {
     let chunk = block.chunk;
     let index = block.index;
-    let address = address_of(block);
+    let address = address_of(row, block);
     write!(out, "block {chunk}.{index} {address}\n")
 }
 
@@ -112,15 +153,16 @@ struct Uses {
     frees: usize,
 }
 
-fn uses_of(steps: &[StepLine], answers: &[Answer]) -> Uses
-    ensures allocs { result.allocs ≡ count_of is_alloc steps.now answers.now }
-    ensures frees { result.frees ≡ count_of is_free steps.now answers.now }
+fn uses_of(trace: &Trace, answers: &[Answer]) -> Uses
+    ensures allocs { result.allocs ≡ count_of is_alloc trace.now answers.now }
+    ensures frees { result.frees ≡ count_of is_free trace.now answers.now }
 {
     let mut allocs = 0;
     let mut frees = 0;
-    for i in 0..steps.len().min(answers.len()) {
-        allocs += one_if(is_alloc(steps[i], answers[i]));
-        frees += one_if(is_free(steps[i], answers[i]));
+    for i in 0..trace.len().min(answers.len()) {
+        let step = trace.step(i);
+        allocs += one_if(is_alloc(&step.act, answers[i]));
+        frees += one_if(is_free(&step.act, answers[i]));
     }
     Uses { allocs, frees }
 }
@@ -131,19 +173,22 @@ fn one_if(counts: bool) -> usize
     if counts { 1 } else { 0 }
 }
 
-fn is_alloc(step: StepLine, answer: Answer) -> bool
-    ensures { result ≡ is_alloc step answer }
+fn is_alloc(act: &Act, answer: Answer) -> bool
+    ensures { result ≡ is_alloc act.now answer }
 {
-    matches!(
-        (step, answer),
-        (StepLine::Allocate { .. }, Answer::Block { .. })
-    )
+    match act {
+        Act::Alloc { .. } => matches!(answer, Answer::Block { .. }),
+        _ => false,
+    }
 }
 
-fn is_free(step: StepLine, answer: Answer) -> bool
-    ensures { result ≡ is_free step answer }
+fn is_free(act: &Act, answer: Answer) -> bool
+    ensures { result ≡ is_free act.now answer }
 {
-    matches!((step, answer), (StepLine::Free { .. }, Answer::Done))
+    match act {
+        Act::Free { .. } => matches!(answer, Answer::Done),
+        _ => false,
+    }
 }
 
 fn write_use(out: &mut String, name: &str, uses: Uses) -> Result<(), AllocError>
@@ -158,14 +203,17 @@ fn write_use(out: &mut String, name: &str, uses: Uses) -> Result<(), AllocError>
     )
 }
 
-#[tactic(auto, using(crate::proofs::ReportText::chunk_text))]
-fn write_chunk(out: &mut String, grown: bool) -> Result<(), AllocError>
-    ensures { OnOk result (string_bytes out.new ≡ string_bytes out.old ++ text_of_lines (chunk_lines grown)) }
+fn write_chunk(out: &mut String, row: ZoneRow, grown: bool) -> Result<(), AllocError>
+    requires submap { row.submap < 5 }
+    requires element { row.shape.element ≤ 8192 }
+    ensures { OnOk result (string_bytes out.new ≡ string_bytes out.old ++ text_of_lines (chunk_lines row grown)) }
 {
-    if grown {
-        out.push_str("chunk 0 0 0x50000000000 mapped\n")?;
+    if !grown {
+        return Ok(());
     }
-    Ok(())
+    let first = Block { chunk: 0, index: 0 };
+    let address = address_of(row, first);
+    write!(out, "chunk 0 0 {address} mapped\n")
 }
 
 fn write_visits(out: &mut String, visits: &[u32], settled: u32) -> Result<(), AllocError>
@@ -204,44 +252,43 @@ fn write_settled(out: &mut String, settled: u32) -> Result<(), AllocError>
     write!(out, " 0:{settled}*")
 }
 
-#[tactic(auto, using(crate::proofs::ReportText::ask_text))]
-fn write_ask(out: &mut String, grown: bool) -> Result<(), AllocError>
-    ensures { OnOk result (string_bytes out.new ≡ string_bytes out.old ++ text_of_lines (map ask_line (log_of grown))) }
+fn write_ask(out: &mut String, row: ZoneRow, grown: bool) -> Result<(), AllocError>
+    ensures { OnOk result (string_bytes out.new ≡ string_bytes out.old ++ text_of_lines (map ask_line (log_of row grown))) }
 {
-    if grown {
-        out.push_str("ask 0 chunk 1 base 0\n")?;
+    if !grown {
+        return Ok(());
     }
-    Ok(())
+    let pages = row.shape.pages;
+    write!(out, "ask 0 chunk {pages} base 0\n")
 }
 
 #[cfg(test)]
 mod tests {
     use super::*;
-    use kz_model::Name;
+    use kz_model::Geometry;
     use std::test::Fail;
 
     #[test]
-    fn reports_an_allocation_and_its_free(rt: HostRuntime) -> Result<(), Fail> {
-        let first = First {
-            type_name: Name::of(b"blob"),
-            field: Name::of(b"b"),
-            names: Vec::from_array(rt.alloc(), [Name::of(b"x")])?,
-            steps: Vec::from_array(
-                rt.alloc(),
-                [StepLine::Allocate { name: 0 }, StepLine::Free { name: 0 }],
-            )?,
+    fn writes_replies_and_a_chunk_of_a_general_zone(rt: HostRuntime) -> Result<(), Fail> {
+        let row = ZoneRow {
+            bucket: Some(0),
+            submap: 0,
+            shape: Geometry {
+                element: 64,
+                count: 64,
+                pages: 1,
+            },
+            types: 1,
         };
-        let block = Block { chunk: 0, index: 1 };
-        let ran = Ran {
-            replies: Vec::from_array(rt.alloc(), [Answer::Block { block }, Answer::Done])?,
-            visits: Vec::from_array(rt.alloc(), [1])?,
-            settled: 1,
-            grown: true,
-        };
-        let text = report(rt.alloc(), &first, &ran)?;
+        let block = Block { chunk: 0, index: 3 };
+        let mut out = String::new(rt.alloc());
+        write_answers(&mut out, row, &[Answer::Block { block }, Answer::NoName])?;
+        write_chunk(&mut out, row, true)?;
+        write_visits(&mut out, &[1, 4], 2)?;
+        write_ask(&mut out, row, true)?;
         let wanted =
-            "report 1\ntype blob size 16 align 1 letters 22 class 16 zone 0\nzone 0 data.16 element 16 count 256 pages 1 submap D types 1\ncpu 0\nblock 0.1 0x50000000010\ndone\nuse blob allocs 1 frees 1 live 0\nchunk 0 0 0x50000000000 mapped\nvisits 0 0 0:1 0:1*\nask 0 chunk 1 base 0\nend\n";
-        assert_eq!(rt; text.as_str(), wanted);
+            "block 0.3 0x100000000c0\nno name\nchunk 0 0 0x10000000000 mapped\nvisits 0 0 0:1 0:4 0:2*\nask 0 chunk 1 base 0\n";
+        assert_eq!(rt; out.as_str(), wanted);
         Ok(())
     }
 }

@@ -1,26 +1,11 @@
 //! How the program ended, and the line that says so.
-ghost use Rattle.std.specs.Prelude.{◌≡◌, ◌+◌, ◌≤◌, ◌++◌, [], length};
+ghost use Rattle.std.specs.Prelude.{◌≡◌, ◌+◌, ◌≤◌, ◌++◌, [], length, decimal};
 ghost use Rattle.arrayvec.specs.ArrayVec.{array_vec_len};
-ghost use Rattle.kz_top.specs.Call.{refusal_line, status_line, cause_text, status_number};
+ghost use Rattle.kz_top.specs.Call.{refusal_line, status_line, cause_text, counted_text, status_number};
 
 use arrayvec::ArrayVec;
 use itoa::Buffer;
-
-/// Why an input is refused.
-#[derive(Clone, Copy, Debug, PartialEq, Eq)]
-pub enum Cause {
-    /// The input is of no form that is built.
-    Unsupported,
-    /// The input has more than 33,554,432 bytes.
-    TooLong,
-}
-
-/// A refused input: the number of the line, from 1, and the cause. Line 0 is the input as a whole.
-#[derive(Clone, Copy, Debug, PartialEq, Eq)]
-pub struct Refusal {
-    pub line: u32,
-    pub cause: Cause,
-}
+use kz_model::{Cause, Counted, Refusal};
 
 /// How the program ended.
 #[derive(Clone, Copy, Debug, PartialEq, Eq)]
@@ -74,13 +59,58 @@ fn append(line: &mut ArrayVec<u8, 64>, bytes: &[u8])
     let _ = line.try_extend_from_slice(bytes);
 }
 
-fn text_of(cause: Cause) -> &'static [u8]
-    ensures text { result.now ≡ cause_text cause }
-    ensures few { length result.now ≤ 16 }
+fn counted(what: Counted) -> &'static [u8]
+    ensures text { result.now ≡ counted_text what }
+    ensures few { length result.now ≤ 6 }
+{
+    match what {
+        Counted::Types => b"types",
+        Counted::Steps => b"steps",
+        Counted::Names => b"names",
+        Counted::Rounds => b"rounds",
+    }
+}
+
+// Appends words, and a number behind them.
+fn append_numbered(line: &mut ArrayVec<u8, 64>, words: &[u8], number: u32)
+    requires { array_vec_len line.old + length words.now ≤ 50 }
+    ensures items { line.new.items ≡ line.old.items ++ (words.now ++ decimal number) }
+    ensures len { array_vec_len line.new ≤ array_vec_len line.old + length words.now + 10 }
+{
+    let mut digits = Buffer::new();
+    append(line, words);
+    append(line, digits.format(number).as_bytes());
+}
+
+fn append_cause(line: &mut ArrayVec<u8, 64>, cause: Cause)
+    requires { array_vec_len line.old ≤ 30 }
+    ensures items { line.new.items ≡ line.old.items ++ cause_text cause }
+    ensures len { array_vec_len line.new ≤ array_vec_len line.old + 30 }
 {
     match cause {
-        Cause::Unsupported => b"unsupported",
-        Cause::TooLong => b"too long",
+        Cause::BadLine => append(line, b"bad line"),
+        Cause::BadNumber => append(line, b"bad number"),
+        Cause::OutOfRange => append(line, b"out of range"),
+        Cause::TooMany { what } => {
+            append(line, b"too many ");
+            append(line, counted(what));
+        }
+        Cause::SameName => append(line, b"same name"),
+        Cause::UnknownType => append(line, b"unknown type"),
+        Cause::ForwardUse => append(line, b"forward use"),
+        Cause::Empty => append(line, b"empty type"),
+        Cause::TooLarge { size } => append_numbered(line, b"too large ", size),
+        Cause::BudgetShort { classes } => append_numbered(line, b"budget short ", classes),
+        Cause::UnknownName => append(line, b"unknown name"),
+        Cause::NameOfTwoCpus => append(line, b"name of two cpus"),
+        Cause::NameOfTwoTypes => append(line, b"name of two types"),
+        Cause::GiveToSelf => append(line, b"give to self"),
+        Cause::RoundsDiffer => append(line, b"rounds differ"),
+        Cause::BadOrder => append(line, b"bad order"),
+        Cause::Truncated => append(line, b"truncated"),
+        Cause::Trailing => append(line, b"trailing"),
+        Cause::TooLong => append(line, b"too long"),
+        Cause::Unsupported => append(line, b"unsupported"),
     }
 }
 
@@ -88,10 +118,8 @@ fn append_refusal(line: &mut ArrayVec<u8, 64>, refusal: Refusal)
     requires { line.old.items ≡ [] }
     ensures { line.new.items ≡ refusal_line refusal }
 {
-    let mut digits = Buffer::new();
-    append(line, b"kzone: line ");
-    append(line, digits.format(refusal.line).as_bytes());
+    append_numbered(line, b"kzone: line ", refusal.line);
     append(line, b": ");
-    append(line, text_of(refusal.cause));
+    append_cause(line, refusal.cause);
     append(line, b"\n");
 }

@@ -1,24 +1,46 @@
-use Rattle.std.proofs.Common.{string_bytes, arith, ap, ◌∙◌, length}
-use Rattle.kz_top.proofs.Answering.{none_told, not_none, not_spelled, text_told}
+-- The work, by how it ended.
+use Rattle.std.proofs.Common.{ℕ, List, string_bytes, subst, arith, ap, length}
+use Rattle.std.specs.Io.KnownBytes.{Appends}
+use Rattle.kz_text.specs.Streams.{AppendsFront}
+use Rattle.kz_top.proofs.Outcomes.{work_refused, work_written, work_cut_off}
 use Rattle.kz_top.proofs.call.work.Goals as goal
 
-pub returns-in-Ok-None-clause-unsupported : goal.returns-in-Ok-None-clause-unsupported
-returns-in-Ok-None-clause-unsupported g c = λ e bytes told.
-    none_told (g.S.Source.rest c.args.input.now) c.in-Ok.bytes.items bytes c.in-Ok.ensures.whole told (omega (arith, c.in-Ok.bytes.ok, c.in-Ok.ensures.within)) (rw c.in-Ok-None.field-0-is at c.in-Ok-None.ensures)
+pub returns-in-Ok-Err-clause-done : goal.returns-in-Ok-Err-clause-done
+returns-in-Ok-Err-clause-done g c =
+    work_refused _ _ _ _ _ _ _ _ c.in-Some.command c.in-Ok.bytes.items c.in-Ok-Err.refusal
+    (record {
+      asks = c.in-Some.ensures;
+      told = c.in-Ok.ensures.whole;
+      few = omega (arith, c.in-Ok.bytes.ok, c.in-Ok.ensures.within);
+      later = c.in-Ok.ensures.later;
+      sure = λ sure. (c.in-Ok.ensures.sure sure).1;
+    })
+    (rw c.in-Ok-Err.field-0-is at c.in-Ok-Err.ensures)
 
-pub returns-in-Ok-None-clause-completes : goal.returns-in-Ok-None-clause-completes
-returns-in-Ok-None-clause-completes g c = λ bytes b words told few spells read wrote.
-    absurd (not_spelled (g.S.Source.rest c.args.input.now) c.in-Ok.bytes.items bytes b c.in-Ok.ensures.whole told (rw c.in-Ok-None.field-0-is at c.in-Ok-None.ensures) spells)
+pub returns-in-Ok-write_whole-clause-done : goal.returns-in-Ok-write_whole-clause-done
+returns-in-Ok-write_whole-clause-done g c =
+    let P : List ℕ → Type 0 = λ text. Appends (g.K.Sink.taken c.args.out.now) (g.K.Sink.taken c.write_whole.new.sink) text in
+    work_written _ _ _ _ _ _ _ _ _ _ c.in-Some.command c.in-Ok.bytes.items (string_bytes c.in-Ok-Ok.text)
+    (record {
+      asks = c.in-Some.ensures;
+      told = c.in-Ok.ensures.whole;
+      few = omega (arith, c.in-Ok.bytes.ok, c.in-Ok.ensures.within);
+      later = c.in-Ok.ensures.later;
+      sure = λ sure. (c.in-Ok.ensures.sure sure).1;
+    })
+    (rw c.in-Ok-Ok.field-0-is at c.in-Ok-Ok.ensures) (subst P c.as_bytes.ensures.value c.in-Ok-write_whole.ensures.ok)
+    (λ fits. (c.in-Ok-write_whole.ensures.sure (omega (arith, fits, ap (λ (text : List ℕ). length text) c.as_bytes.ensures.value))).1)
 
-pub returns-in-Ok-write_whole-clause-refuses : goal.returns-in-Ok-write_whole-clause-refuses
-returns-in-Ok-write_whole-clause-refuses g c = λ bytes words told few none read.
-    absurd (not_none (g.S.Source.rest c.args.input.now) c.in-Ok.bytes.items bytes (string_bytes c.in-Ok-Some.text) c.in-Ok.ensures.whole told (rw c.in-Ok-Some.field-0-is at c.in-Ok-Some.ensures) none)
-
-pub returns-in-Ok-write_whole-clause-sure_out : goal.returns-in-Ok-write_whole-clause-sure_out
-returns-in-Ok-write_whole-clause-sure_out g c = λ bytes b told spells room.
-    let is = text_told (g.S.Source.rest c.args.input.now) c.in-Ok.bytes.items bytes (string_bytes c.in-Ok-Some.text) b c.in-Ok.ensures.whole told (rw c.in-Ok-Some.field-0-is at c.in-Ok-Some.ensures) spells in
-    (λ e. cc, (c.in-Ok-write_whole.ensures.sure (omega (arith, room, ap length (c.as_bytes.ensures.value ∙ is)))).1)
-
-pub returns-clause-refuses : goal.returns-clause-refuses
-returns-clause-refuses g c = λ bytes words told few none read.
-    absurd (not_none (g.S.Source.rest c.args.input.now) c.in-Ok.bytes.items bytes (string_bytes c.in-Ok-Some.text) c.in-Ok.ensures.whole told (rw c.in-Ok-Some.field-0-is at c.in-Ok-Some.ensures) none)
+pub returns-clause-done : goal.returns-clause-done
+returns-clause-done g c =
+    let P : List ℕ → Type 0 = λ text. AppendsFront (g.K.Sink.taken c.args.out.now) (g.K.Sink.taken c.write_whole.new.sink) text in
+    work_cut_off _ _ _ _ _ _ _ _ _ _ c.in-Some.command c.in-Ok.bytes.items (string_bytes c.in-Ok-Ok.text)
+    (record {
+      asks = c.in-Some.ensures;
+      told = c.in-Ok.ensures.whole;
+      few = omega (arith, c.in-Ok.bytes.ok, c.in-Ok.ensures.within);
+      later = c.in-Ok.ensures.later;
+      sure = λ sure. (c.in-Ok.ensures.sure sure).1;
+    })
+    (rw c.in-Ok-Ok.field-0-is at c.in-Ok-Ok.ensures) (subst P c.as_bytes.ensures.value c.in-Err-write_whole.ensures.err) c.in-Err-write_whole.ensures.cause
+    (λ fits. let impossible = (c.in-Err-write_whole.ensures.sure (omega (arith, fits, ap (λ (text : List ℕ). length text) c.as_bytes.ensures.value))).0 in cc)

@@ -1,14 +1,16 @@
-use Rattle.std.proofs.Common.{◌∙◌}
 use Rattle.std.specs.String.{string_bytes}
-use Rattle.kz_top.proofs.ReportText.{if_ok}
-use Rattle.kz_top.proofs.OneReport.{reported, not_reported}
+use Rattle.kz_top.proofs.Results.{if_ok}
+use Rattle.kz_top.proofs.Writable.{are_text}
+use Rattle.kz_top.proofs.OneReport.{can_write, reported}
 use Rattle.kz_top.proofs.report.report.Goals as goal
 
-pub returns-in-Ok : goal.returns-in-Ok
-returns-in-Ok c =
-    if_ok c.text_of.result _ _
-    (λ text e. reported c.args.first.now c.args.ran.now c.in-Ok.name.now c.deref.result.now (string_bytes text) (c.in-Ok.ensures.cases.0 ∙ c.as_slice.ensures) c.deref.ensures.value e)
-    c.text_of.ensures
+pub text_of-requires : goal.text_of-requires
+text_of-requires c =
+    let b = c.args.bundle.now in
+    let plan = c.args.plan.now in
+    let can = can_write b plan c.requires.built.0 c.requires.built.1 in
+    record { text = are_text b plan c.args.layouts.now c.requires.planned; types = can.types; traces = can.traces; zones = can.zones; fit = can.fit; submap = can.submap }
 
-pub returns-in-Err : goal.returns-in-Err
-returns-in-Err c = not_reported c.args.first.now c.args.ran.now c.as_slice.result.now (string_bytes c.new.result) c.as_slice.ensures c.in-Err.ensures.cases.0
+pub returns : goal.returns
+returns c = λ small is made.
+    if_ok c.text_of.result _ _ (λ text e. reported c.args.bundle.now c.args.plan.now c.args.layouts.now small c.args.ran.now (string_bytes text) c.requires.planned is made e) c.text_of.ensures

@@ -6,4 +6,4 @@ use Rattle.kz_top.proofs.report.write_answers.Given as goal
 
 -- the lines so far are written
 abbrev pub invariant-loop-answer : goal.invariant-loop-answer
-invariant-loop-answer l = string_bytes l.out ≡ string_bytes l.fn.out ++ text_of_lines (map answer_line (take l.answer-index l.answers))
+invariant-loop-answer l = string_bytes l.out ≡ string_bytes l.fn.out ++ text_of_lines (map (answer_line l.row) (take l.answer-index l.answers))

@@ -1,6 +1,7 @@
 use Rattle.std.proofs.Common.{List, ℕ, ◌++◌, ap, ◌∙◌}
 use Rattle.std.specs.String.{string_bytes}
-use Rattle.kz_top.proofs.ReportText.{settled_text, if_ok}
+use Rattle.kz_top.proofs.Results.{if_ok}
+use Rattle.kz_top.proofs.ReportText.{settled_text}
 use Rattle.kz_top.proofs.report.write_settled.Goals as goal
 
 pub returns : goal.returns

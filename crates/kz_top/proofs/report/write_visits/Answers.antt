@@ -1,6 +1,7 @@
 use Rattle.std.proofs.Common.{List, ℕ, ◌++◌, ap, ◌∙◌, codes, length}
 use Rattle.std.specs.String.{string_bytes}
-use Rattle.kz_top.proofs.ReportText.{visits_text, some_visit, four_more, pushed, if_ok}
+use Rattle.kz_top.proofs.Results.{pushed, if_ok}
+use Rattle.kz_top.proofs.ReportText.{visits_text, some_visit, four_more}
 use Rattle.kz_top.proofs.report.write_visits.Goals as goal
 
 pub returns : goal.returns
