@@ -12,7 +12,7 @@ const TWO_CPUS: &[u8] =
     b"machine 1\nseed plain\ncpus 2\nframes 8\npages 16\nbudget 2\nmagazine 2\ndepot 1\n";
 
 const MORE_FRAMES: &[u8] =
-    b"machine 1\nseed plain\ncpus 1\nframes 16\npages 16\nbudget 2\nmagazine 2\ndepot 1\n";
+    b"machine 1\nseed plain\ncpus 1\nframes 9\npages 16\nbudget 2\nmagazine 2\ndepot 1\n";
 
 const SMALL_BUDGET: &[u8] =
     b"machine 1\nseed plain\ncpus 1\nframes 8\npages 16\nbudget 1\nmagazine 2\ndepot 1\n";
@@ -144,6 +144,91 @@ fn report_of_frees_and_refused_steps(rt: HostRuntime) -> Result<(), Fail> {
     let wanted = joined(rt.alloc(), &[FRONT, report])?;
     assert_eq!(rt; outcome.out.as_slice(), wanted.as_slice());
     assert!(rt; outcome.err.is_empty());
+    Ok(())
+}
+
+#[test]
+fn a_freed_block_is_another_names(rt: HostRuntime) -> Result<(), Fail> {
+    let lines = b"cpu 0\na x proc\nf x\na y proc\nf x\na y proc\n";
+    let outcome = sound_call(rt.alloc(), b"replay", &[HEADER, TYPE, lines, END])?;
+    let report = joined(
+        rt.alloc(),
+        &[
+            FRONT,
+            b"block 0.1 0x10000000010\ndone\nblock 0.1 0x10000000010\nnot held\nbusy\nuse proc allocs 2 frees 1 live 1\nchunk 0 0 0x10000000000 mapped\nvisits 0 0 0:1 0:4*\nask 0 chunk 1 base 0\nend\n",
+        ],
+    )?;
+    assert_eq!(rt; outcome.status, Status::Ok);
+    assert_eq!(rt; outcome.out.as_slice(), report.as_slice());
+    Ok(())
+}
+
+#[test]
+fn magazines_spill_and_are_refilled(rt: HostRuntime) -> Result<(), Fail> {
+    let lines =
+        b"cpu 0\na v1 proc\na v2 proc\na v3 proc\na v4 proc\na v5 proc\nf v1\nf v2\nf v3\nf v4\nf v5\na w1 proc\na w2 proc\na w3 proc\na w4 proc\na w5 proc\na w6 proc\n";
+    let outcome = sound_call(rt.alloc(), b"replay", &[HEADER, TYPE, lines, END])?;
+    let report = joined(
+        rt.alloc(),
+        &[
+            FRONT,
+            b"block 0.1 0x10000000010\nblock 0.0 0x10000000000\nblock 0.3 0x10000000030\nblock 0.2 0x10000000020\nblock 0.5 0x10000000050\ndone\ndone\ndone\ndone\ndone\nblock 0.5 0x10000000050\nblock 0.2 0x10000000020\nblock 0.3 0x10000000030\nblock 0.0 0x10000000000\nblock 0.1 0x10000000010\nblock 0.4 0x10000000040\nuse proc allocs 11 frees 5 live 6\nchunk 0 0 0x10000000000 mapped\nvisits 0 0 0:1 0:2 0:2 0:4 0:6 0:1*\nask 0 chunk 1 base 0\nend\n",
+        ],
+    )?;
+    assert_eq!(rt; outcome.status, Status::Ok);
+    assert_eq!(rt; outcome.out.as_slice(), report.as_slice());
+    Ok(())
+}
+
+#[test]
+fn a_full_depot_makes_blocks_idle(rt: HostRuntime) -> Result<(), Fail> {
+    let lines =
+        b"type blob { bytes 16 b }\ncpu 0\na n0 blob\na n1 blob\na n2 blob\na n3 blob\na n4 blob\na n5 blob\na n6 blob\na n7 blob\na n8 blob\nf n0\nf n1\nf n2\nf n3\nf n4\nf n5\nf n6\nf n7\nf n8\na n0 blob\na n1 blob\na n2 blob\na n3 blob\na n4 blob\na n5 blob\na n6 blob\na n7 blob\na n8 blob\n";
+    let outcome = sound_call(rt.alloc(), b"replay", &[HEADER, lines, END])?;
+    let report =
+        b"report 1\ntype blob size 16 align 1 letters 22 class 16 zone 0\nzone 0 data.16 element 16 count 256 pages 1 submap D types 1\ncpu 0\nblock 0.1 0x50000000010\nblock 0.0 0x50000000000\nblock 0.3 0x50000000030\nblock 0.2 0x50000000020\nblock 0.5 0x50000000050\nblock 0.4 0x50000000040\nblock 0.7 0x50000000070\nblock 0.6 0x50000000060\nblock 0.9 0x50000000090\ndone\ndone\ndone\ndone\ndone\ndone\ndone\ndone\ndone\nblock 0.9 0x50000000090\nblock 0.6 0x50000000060\nblock 0.7 0x50000000070\nblock 0.4 0x50000000040\nblock 0.1 0x50000000010\nblock 0.8 0x50000000080\nblock 0.2 0x50000000020\nblock 0.0 0x50000000000\nblock 0.5 0x50000000050\nuse blob allocs 18 frees 9 live 9\nchunk 0 0 0x50000000000 mapped\nvisits 0 0 0:1 0:2 0:2 0:2 0:2 0:4 0:2 0:2 0:6 0:2 0:2\nask 0 chunk 1 base 0\nend\n";
+    assert_eq!(rt; outcome.status, Status::Ok);
+    assert_eq!(rt; outcome.out.as_slice(), report.as_slice());
+    Ok(())
+}
+
+/// A bundle that allocates so many times, each time under another name.
+fn allocations(alloc: Global, count: u32) -> Result<Vec<u8>, AllocError> {
+    let mut text = String::new(alloc);
+    for number in 0..count {
+        write!(text, "a n{number} proc\n")?;
+    }
+    joined(alloc, &[HEADER, TYPE, b"cpu 0\n", text.as_bytes(), END])
+}
+
+#[test]
+fn replay_refuses_more_allocations_than_elements(rt: HostRuntime) -> Result<(), Fail> {
+    let whole = allocations(rt.alloc(), 256)?;
+    let mut streams = sound(rt.alloc());
+    streams.room = 16384;
+    assert_eq!(rt;
+        call(rt.alloc(), b"replay", whole, streams)?.status,
+        Status::Ok
+    );
+    let more = allocations(rt.alloc(), 257)?;
+    let refused = call(rt.alloc(), b"replay", more, sound(rt.alloc()))?;
+    assert_eq!(rt; refused.status.number(), 2);
+    assert_eq!(rt;
+        refused.err.as_slice(),
+        b"kzone: line 267: unsupported\n".as_slice()
+    );
+    Ok(())
+}
+
+#[test]
+fn plan_of_three_signatures(rt: HostRuntime) -> Result<(), Fail> {
+    let types =
+        b"type p2 { ptr a; ptr b }\ntype proc { ptr next; u64 pid }\ntype t { u8 a; ptr p }\ncpu 0\n";
+    let outcome = sound_call(rt.alloc(), b"plan", &[HEADER, types, END])?;
+    let plan =
+        b"plan 1\ntype p2 size 16 align 8 letters 11 class 16 zone 0\ntype proc size 16 align 8 letters 12 class 16 zone 0\ntype t size 16 align 8 letters 21 class 16 zone 1\nzone 0 kt.16.0 element 16 count 256 pages 1 submap G0 types 2\nzone 1 kt.16.1 element 16 count 256 pages 1 submap G0 types 1\nend\n";
+    assert_eq!(rt; outcome.status, Status::Ok);
+    assert_eq!(rt; outcome.out.as_slice(), plan.as_slice());
     Ok(())
 }
 
