@@ -27,6 +27,7 @@ pub mod SaidLines
 pub mod OneText
 pub mod ValidLines
 pub mod ValidNames
+pub mod ValidOrder
 pub mod Validity
 pub mod Cut
 pub mod Hex
@@ -39,3 +40,5 @@ pub mod Bodies
 pub mod Layings
 pub mod Printed
 pub mod Outlines
+pub mod Zoned
+pub mod Counting

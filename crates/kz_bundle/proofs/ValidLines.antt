@@ -1,6 +1,8 @@
 -- What holds of each draft that lines lead to: its numbers keep to their ranges.
-use Rattle.std.proofs.Common.{◌≡◌, ℕ, ◌+◌, ◌<◌, ◌≤◌, ◌==◌, true, false, List, [], ◌∷◌, ◌++◌, length, sum_by, All, Option, Some, Err, Ok, refl, arith, subst, if◌then◌else◌, length-append}
+use Rattle.std.proofs.Common.{◌≡◌, ℕ, ◌+◌, ◌-◌, ◌<◌, ◌≤◌, ◌==◌, true, false, List, [], ◌∷◌, ◌++◌, length, sum_by, All, Option, Some, Err, Ok, refl, arith, subst, if◌then◌else◌, length-append}
+use Rattle.std.specs.List.Sorted.{IsNonDecreasingBy}
 use Rattle.std.proofs.lemmas.List.Elements.{All-nil, All-push, All-weaker}
+use Rattle.std.proofs.lemmas.List.Sorted.{IsNonDecreasingBy-push}
 use Rattle.std.proofs.lemmas.List.Sums.{sum_by_push}
 use Rattle.kz_model.specs.declared.bundle.OrderLine.{OrderLine}
 use Rattle.kz_model.specs.declared.bundle.OrderLine.TheVariants as turn
@@ -34,6 +36,7 @@ IsStep breaks line = KeepsTo line.said × (line.round ≤ breaks)
 
 pub record IsSection (section : Section) : Type 0 where
   pub steps : All (IsStep section.breaks) section.steps
+  pub in_rounds : IsNonDecreasingBy (λ line. line.round) section.steps
   pub breaks : section.breaks ≤ 999
 
 abbrev pub count_of : Section → ℕ
@@ -126,7 +129,7 @@ stepped p d before section steps more ok some are is counted few e =
     })
 
 empty : (line : ℕ) → IsSection (new_section line)
-empty line = record { steps = All-nil (IsStep 0); breaks = omega arith }
+empty line = record { steps = All-nil (IsStep 0); in_rounds = λ i j d le lt. absurd (omega arith); breaks = omega arith }
 
 -- a line keeps the numbers in their ranges
 draft_next : (p : Place) (d : Draft) (number : ℕ) (line : Line) (more : Draft) → IsDraft (record d { place = p }) → IsAllowed p d line →
@@ -168,7 +171,11 @@ draft_next place.Steps d number (Does said) more ok is e =
       | true ↦ λ full e. failed (cause.TooMany counted.Steps) more e
       | false ↦ λ full e.
           stepped place.Steps d d.before longer (d.steps + 1) more ok ok.told ok.before
-          (record { steps = All-push (IsStep d.section.breaks) d.section.steps line ok.section.steps (keeps_to d.header.cpus said is, omega arith); breaks = ok.section.breaks })
+          (record {
+            steps = All-push (IsStep d.section.breaks) d.section.steps line ok.section.steps (keeps_to d.header.cpus said is, omega arith);
+            in_rounds = IsNonDecreasingBy-push (λ (line : SaidLine). line.round) d.section.steps line ok.section.in_rounds (λ e some. (ok.section.steps (length d.section.steps - 1) e (omega arith)).1);
+            breaks = ok.section.breaks;
+          })
           (one_longer (sum_by count_of d.before) (length d.section.steps) (length (d.section.steps ++ line ∷ [])) d.steps (length-append d.section.steps (line ∷ [])) ok.counted)
           (room d.steps 1000000 full ok.few_steps) e
     ] refl e
@@ -188,6 +195,7 @@ draft_next place.Steps d number Break more ok is e =
           stepped place.Steps d d.before (record d.section { breaks = d.section.breaks + 1 }) d.steps more ok ok.told ok.before
           (record {
             steps = All-weaker (IsStep d.section.breaks) (IsStep (d.section.breaks + 1)) (λ line h. (h.0, omega (arith, h.1))) d.section.steps ok.section.steps;
+            in_rounds = ok.section.in_rounds;
             breaks = room d.section.breaks 999 full ok.section.breaks;
           })
           ok.counted ok.few_steps e

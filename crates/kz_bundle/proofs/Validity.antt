@@ -22,6 +22,7 @@ use Rattle.kz_bundle.proofs.Declared.{declared-AreInRange}
 use Rattle.kz_bundle.proofs.OneText.{some_fault, first_none, then_none, AllRounds, same_rounds}
 use Rattle.kz_bundle.proofs.Table.{place_within}
 use Rattle.kz_bundle.proofs.ValidLines.{KeepsTo, IsStep, IsSection, count_of, IsTold, IsDraft, draft_first, draft_last, reached_last}
+use Rattle.kz_bundle.proofs.ValidOrder.{traces_in_rounds, all_counts, order_in_turn}
 use Rattle.kz_bundle.proofs.ValidNames.{IsKnown, IsRow, AreKnown, known_lines, lines_keep, sections_known}
 use Rattle.kz_bundle.proofs.Walking.{IsReached, reached_first, spelling_is_reading}
 
@@ -97,6 +98,9 @@ module _ (d : Draft) (is : IsDraft d) (reached : IsReached d) (ended : d.place �
   after_types : else_fault (names_fault d) (rounds_fault d) ≡ None
   after_types = then_none (types_fault d) (else_fault (names_fault d) (rounds_fault d)) fine
 
+  after_names : rounds_fault d ≡ None
+  after_names = then_none (names_fault d) (rounds_fault d) after_types
+
   layouts : AreLaidOut d.types d.header.budget
   layouts = laid_out d.types d.header.budget (first_none (types_fault d) (else_fault (names_fault d) (rounds_fault d)) fine)
 
@@ -107,7 +111,7 @@ module _ (d : Draft) (is : IsDraft d) (reached : IsReached d) (ended : d.place �
   known = known_lines types rows [] (step_lines d) (lines_keep 0 (sections_of d) sections) (record { few = omega arith; each = All-nil (IsRow types) }) (first_none (names_fault d) (rounds_fault d) after_types)
 
   same : All (λ section. section.breaks ≡ d.section.breaks) (sections_of d)
-  same = all_rounds d.section.breaks (sections_of d) (same_rounds d.before d.section (first_none (rounds_of (sections_of d)) (order_fault d d.order) (then_none (names_fault d) (rounds_fault d) after_types)))
+  same = all_rounds d.section.breaks (sections_of d) (same_rounds d.before d.section (first_none (rounds_of (sections_of d)) (order_fault d d.order) after_names))
 
   told : (1 ≤ d.header.magazine) × (length d.before + 1 ≡ d.header.cpus)
   told = subst (λ place. IsTold place d.header.magazine d.header.cpus (length d.before)) ended is.told
@@ -128,6 +132,9 @@ module _ (d : Draft) (is : IsDraft d) (reached : IsReached d) (ended : d.place �
       (subst (λ many. Within (length (row_names rows)) many) (length-map d.types (λ decl. decl.name))
       (traces_within types (row_names rows) d.section.breaks (sections_of d) sections (sections_known types (row_names rows) 0 (sections_of d) known.known) same))
 
+  cpus : length (bundle_of d).traces ≡ d.header.cpus
+  cpus = length-map (sections_of d) (λ section. map (step_of types (row_names rows)) section.steps) ∙ length-append d.before (d.section ∷ []) ∙ told.1
+
   pub draft_valid : IsValid (bundle_of d)
   draft_valid = record {
     some_cpus = omega (arith, told.1);
@@ -144,9 +151,11 @@ module _ (d : Draft) (is : IsDraft d) (reached : IsReached d) (ended : d.place �
     few_names = omega (arith, known.rows.few, length-map rows name_row);
     names = All-map (λ (row : NameRow). IsTrue (is_name row.name) × (row.of < length d.types)) name_row rows (All-weaker (IsRow types) (λ row. IsTrue (is_name row.name) × (place_of row.of types < length d.types)) named rows known.rows.each);
     rounds = (omega arith, omega (arith, is.section.breaks));
-    traces = length-map (sections_of d) (λ section. map (step_of types (row_names rows)) section.steps) ∙ length-append d.before (d.section ∷ []) ∙ told.1;
+    traces = cpus;
     steps = traces;
     few_steps = omega (arith, steps_counted types (row_names rows) (sections_of d), sum_by_push count_of d.before d.section, is.counted, is.few_steps);
+    in_rounds = traces_in_rounds types (row_names rows) (sections_of d) sections;
+    order = order_in_turn d (bundle_of d) refl (λ round. all_counts types (row_names rows) round (sections_of d)) cpus refl (then_none (rounds_of (sections_of d)) (order_fault d d.order) after_names);
   }
 
 pub reading_is_valid : ReadingIsValid

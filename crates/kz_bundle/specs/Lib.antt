@@ -11,3 +11,4 @@ pub mod Reading
 pub mod Bodies
 pub mod Printing
 pub mod Outlines
+pub mod Counted

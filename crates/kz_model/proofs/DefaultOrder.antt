@@ -30,7 +30,7 @@ planned b plan all (act.Flush of) = all of
 planned b plan all (act.Trim of) = all of
 
 -- a line counts for its CPU
-step_counts : (b : Bundle) (plan : Plan) (g : Progress) (cpu : ℕ) → ((one_step b plan cpu g).done ≡ slice_set g.done cpu (slice_index g.done cpu + 1)) × ((one_step b plan cpu g).round ≡ g.round)
+pub step_counts : (b : Bundle) (plan : Plan) (g : Progress) (cpu : ℕ) → ((one_step b plan cpu g).done ≡ slice_set g.done cpu (slice_index g.done cpu + 1)) × ((one_step b plan cpu g).round ≡ g.round)
 step_counts b plan g cpu =
     let there = addressed b plan (next_line b cpu g).act in
     let state = state_with_late b plan g cpu there.0 in

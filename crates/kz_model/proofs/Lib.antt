@@ -2,6 +2,7 @@ pub mod Rows
 pub mod ClassRows
 pub mod Classes
 pub mod OrderRows
+pub mod PlayRows
 pub mod Courses
 pub mod Delays
 pub mod Spelling
@@ -35,6 +36,23 @@ pub mod OrderLines
 pub mod OrderRuns
 pub mod Printed
 pub mod DefaultOrder
+pub mod InTurn
+pub mod Played
+pub mod PlayedRounds
+pub mod TraceRounds
+pub mod PlayedReplies
+pub mod PlayedRuns
+pub mod Amounts
+pub mod Sums
+pub mod Stocks
+pub mod Blocks
+pub mod PlayedAt
+pub mod Prefixes
+pub mod OrderJournals
+pub mod OrderVisits
+pub mod RunLines
+pub mod RunRounds
+pub mod OrderIsRun
 pub mod RunLogs
 pub mod ShareRows
 pub mod Shares
@@ -43,3 +61,5 @@ pub mod SharesExist
 mod ReadingRows
 pub mod Shorts
 pub mod PlanRows
+pub mod Isolated
+pub mod LaidOut

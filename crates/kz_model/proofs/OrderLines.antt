@@ -119,7 +119,7 @@ entries zone asks answers = map (λ pair. record { zone = zone; ask = pair.0; an
 same_number : (n : ℕ) → (n == n) ≡ true
 same_number n = grind arith
 
-entries_there : (zone : ℕ) (asks : List Ask) (answers : List Answer) → length answers ≡ length asks → answers_at zone (entries zone asks answers) ≡ answers
+pub entries_there : (zone : ℕ) (asks : List Ask) (answers : List Answer) → length answers ≡ length asks → answers_at zone (entries zone asks answers) ≡ answers
 entries_there zone [] [] same = refl
 entries_there zone [] (a ∷ answers) same = absurd (omega arith)
 entries_there zone (a ∷ asks) [] same = absurd (omega arith)
@@ -154,7 +154,7 @@ pub record AreNew (asks : List Ask) (answers : List Answer) : Type 0 where
   pub all : all_answered asks answers ≡ true
   pub long : length answers ≡ length asks
 
-are_new : (b : Bundle) (log : List SupplyEntry) (asks : List Ask) → AreNew asks (new_answers b log asks)
+pub are_new : (b : Bundle) (log : List SupplyEntry) (asks : List Ask) → AreNew asks (new_answers b log asks)
 are_new b log asks =
     let xs = map (λ (entry : SupplyEntry). entry.ask) log in
     let after = answers_after b.pages (stocked b.frames) xs asks in

@@ -27,15 +27,15 @@ use Rattle.kz_model.proofs.Alike.{alike_settled}
 use Rattle.kz_model.proofs.OneZone.{caught_up_state, no_steps, alike_none}
 use Rattle.kz_model.proofs.OrderLines.{steps_among-append, carried-mine, carried-other, carried-later, spell_after-push, visit_carries, entries, entries_elsewhere, answers_at-append, new_answers, alike_same, journal_at, seen, IsSized, InStep, IsUntouched, late_untouched, in_step_untouched, seen_mine, seen_other, late_there, visit_there}
 
-same_number : (n : ℕ) → (n == n) ≡ true
+pub same_number : (n : ℕ) → (n == n) ≡ true
 same_number n = grind arith
 
-other_number : (n m : ℕ) → m ≢ n → (n == m) ≡ false
+pub other_number : (n m : ℕ) → m ≢ n → (n == m) ≡ false
 other_number n m ne = grind arith
 
 -- ---- a CPU's line
 
-counted_untouched : (b : Bundle) (plan : Plan) (g : Progress) (cpu zone : ℕ) → cpu < length g.done → slice_index g.done cpu < length (lines_of_round b cpu g.round) → steps_among b plan zone (next_line b cpu g ∷ []) ≡ [] →
+pub counted_untouched : (b : Bundle) (plan : Plan) (g : Progress) (cpu zone : ℕ) → cpu < length g.done → slice_index g.done cpu < length (lines_of_round b cpu g.round) → steps_among b plan zone (next_line b cpu g ∷ []) ≡ [] →
     IsUntouched b plan g (counted cpu g) zone
 counted_untouched b plan g cpu zone lt more none =
     record {
@@ -60,7 +60,7 @@ visit_untouched b plan g cpu zone other step state ne lt more none =
       seen = (counted_untouched b plan g cpu other lt more none).seen;
     }
 
-one_step_sized : (b : Bundle) (plan : Plan) (g : Progress) (cpu : ℕ) → IsSized b plan g → IsSized b plan (one_step b plan cpu g)
+pub one_step_sized : (b : Bundle) (plan : Plan) (g : Progress) (cpu : ℕ) → IsSized b plan g → IsSized b plan (one_step b plan cpu g)
 one_step_sized b plan g cpu sized =
     let there = addressed b plan (next_line b cpu g).act in
     let state = state_with_late b plan g cpu there.0 in
@@ -71,7 +71,7 @@ one_step_sized b plan g cpu sized =
     ]
 
 -- the state in which a line is taken is the undelayed one in what is shared and in what its CPU has
-line_state : (b : Bundle) (plan : Plan) (g : Progress) (cpu zone : ℕ) (lines : List (ℕ × Step)) (places : List (ℕ × ℕ)) → cpu < b.cpus → (i : InStep b plan g zone lines places) →
+pub line_state : (b : Bundle) (plan : Plan) (g : Progress) (cpu zone : ℕ) (lines : List (ℕ × Step)) (places : List (ℕ × ℕ)) → cpu < b.cpus → (i : InStep b plan g zone lines places) →
     ((state_with_late b plan g cpu zone).shared ≡ i.is.undelayed.end.shared) × (own_of (state_with_late b plan g cpu zone) cpu ≡ own_of i.is.undelayed.end cpu)
 line_state b plan g cpu zone lines places lt i =
     let p = params_of b plan zone in
@@ -82,7 +82,7 @@ line_state b plan g cpu zone lines places lt i =
     let caught = caught_up_state p lines i.is.steps lates answers i.is.undelayed i.is.delayed cpu lt i.is.alike in
     (ap (λ (st : ZoneState). st.shared) state ∙ caught.0, ap (λ (st : ZoneState). own_of st cpu) state ∙ caught.1)
 
-one_step_keeps : (b : Bundle) (plan : Plan) (g : Progress) (cpu zone : ℕ) (lines : List (ℕ × Step)) (places : List (ℕ × ℕ)) → IsSized b plan g → IsNext b plan g (Cpu cpu) → InStep b plan g zone lines places →
+pub one_step_keeps : (b : Bundle) (plan : Plan) (g : Progress) (cpu zone : ℕ) (lines : List (ℕ × Step)) (places : List (ℕ × ℕ)) → IsSized b plan g → IsNext b plan g (Cpu cpu) → InStep b plan g zone lines places →
     InStep b plan (one_step b plan cpu g) zone (lines ++ next_there b plan zone g cpu) (places ++ map (λ step. (g.round, step.0)) (next_there b plan zone g cpu))
 one_step_keeps b plan g cpu zone lines places sized next i =
     let line = next_line b cpu g in
@@ -290,7 +290,7 @@ none_yet b plan g cpu zone none =
     ap (λ n. drop (carried cpu g.round (journal_at g zone)) (steps_among b plan zone (take n (lines_of_round b cpu g.round)))) none
     ∙ drop-nil (carried cpu g.round (journal_at g zone))
 
-round_keeps : (b : Bundle) (plan : Plan) (g : Progress) (zone : ℕ) (lines : List (ℕ × Step)) (places : List (ℕ × ℕ)) → zone < length plan.zones → IsSized b plan g → InStep b plan g zone lines places →
+pub round_keeps : (b : Bundle) (plan : Plan) (g : Progress) (zone : ℕ) (lines : List (ℕ × Step)) (places : List (ℕ × ℕ)) → zone < length plan.zones → IsSized b plan g → InStep b plan g zone lines places →
     IsSized b plan (order_step b plan g Round) × InStep b plan (order_step b plan g Round) zone lines places
 round_keeps b plan g zone lines places in-zones sized i =
     let p = params_of b plan zone in
@@ -318,12 +318,12 @@ round_keeps b plan g zone lines places in-zones sized i =
 
 -- ---- the whole order
 
-no_journal : (n i : ℕ) → slice_index_or {A = List Visit} (replicate n []) i [] ≡ []
+pub no_journal : (n i : ℕ) → slice_index_or {A = List Visit} (replicate n []) i [] ≡ []
 no_journal zero i = refl
 no_journal (suc n) zero = refl
 no_journal (suc n) (suc i) = no_journal n i
 
-at_start : (b : Bundle) (plan : Plan) (zone : ℕ) → IsSized b plan (started b plan) × InStep b plan (started b plan) zone [] []
+pub at_start : (b : Bundle) (plan : Plan) (zone : ℕ) → IsSized b plan (started b plan) × InStep b plan (started b plan) zone [] []
 at_start b plan zone =
     let p = params_of b plan zone in
     let g = started b plan in
@@ -365,7 +365,7 @@ pub order_is_alike : (b : Bundle) (plan : Plan) (lines : List OrderLine) (zone :
 order_is_alike b plan lines zone in-zones next =
     let start = at_start b plan zone in (lines_keep b plan zone lines (started b plan) [] [] in-zones next start.0 start.1).1.is
 
-used_all : (p : List Answer → Option Course) (answers : List Answer) (c : Course) → p answers ≡ Some c → c.left ≡ [] → option_map_or all_used (p answers) None ≡ Some c
+pub used_all : (p : List Answer → Option Course) (answers : List Answer) (c : Course) → p answers ≡ Some c → c.left ≡ [] → option_map_or all_used (p answers) None ≡ Some c
 used_all p answers c is none = ap (λ (o : Option Course). option_map_or all_used o None) is ∙ ap (λ (l : List Answer). if length l == 0 then Some c else None) none
 
 pub order_run_is_same : (b : Bundle) (plan : Plan) (zone : ℕ) → zone < length plan.zones → AreNext b plan (started b plan) (order_of b) →

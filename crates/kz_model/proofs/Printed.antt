@@ -24,11 +24,11 @@ abbrev pub total : List Visit → ℕ
 total [] = 0
 total (v ∷ visits) = v.count + total visits
 
-total-push : (visits : List Visit) (v : Visit) → total (visits ++ v ∷ []) ≡ total visits + v.count
+pub total-push : (visits : List Visit) (v : Visit) → total (visits ++ v ∷ []) ≡ total visits + v.count
 total-push [] v = omega arith
 total-push (w ∷ visits) v = omega (arith, total-push visits v)
 
-replies_at-append : (cpu round : ℕ) (xs ys : List (ℕ × ℕ)) (rs qs : List Reply) → length xs ≡ length rs → replies_at cpu round (xs ++ ys) (rs ++ qs) ≡ replies_at cpu round xs rs ++ replies_at cpu round ys qs
+pub replies_at-append : (cpu round : ℕ) (xs ys : List (ℕ × ℕ)) (rs qs : List Reply) → length xs ≡ length rs → replies_at cpu round (xs ++ ys) (rs ++ qs) ≡ replies_at cpu round xs rs ++ replies_at cpu round ys qs
 replies_at-append cpu round [] ys [] qs same = refl
 replies_at-append cpu round [] ys (r ∷ rs) qs same = absurd (omega arith)
 replies_at-append cpu round (x ∷ xs) ys [] qs same = absurd (omega arith)

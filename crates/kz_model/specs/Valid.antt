@@ -1,5 +1,7 @@
 -- What holds of each bundle that a text spells, and the texts that are made of it.
 use Rattle.std.specs.Prelude.{◌≡◌, ℕ, ◌<◌, ◌≤◌, List, [], length, sum_by, None, Some, Result, Ok, Err, All, IsTrue}
+use Rattle.std.specs.List.Sorted.{IsNonDecreasingBy}
+use Rattle.std.specs.Option.{IfSome}
 use Rattle.kz_model.specs.declared.bundle.Act.{Act}
 use Rattle.kz_model.specs.declared.bundle.Act.TheVariants as act
 use Rattle.kz_model.specs.declared.bundle.TraceStep.{TraceStep}
@@ -12,6 +14,7 @@ use Rattle.kz_model.specs.Layouts.{layouts_of, AreInRange}
 use Rattle.kz_model.specs.Plan.{plan_of, classes_in_use}
 use Rattle.kz_model.specs.Order.{order_run}
 use Rattle.kz_model.specs.Stages.{read}
+use Rattle.kz_model.specs.Turns.{counts_in, AreInTurn}
 use Rattle.kz_model.specs.Report.{report_text, plan_text}
 
 -- an act's names and types are among so many
@@ -39,7 +42,7 @@ ok_or_none (Err fault) = []
 abbrev pub layouts_in : Bundle → List Layout
 layouts_in b = ok_or_none (layouts_of b.types)
 
--- What a bundle's numbers keep to.
+-- What a bundle's numbers and its order keep to.
 pub record IsValid (b : Bundle) : Type 0 where
   pub some_cpus : 1 ≤ b.cpus
   pub few_cpus : b.cpus ≤ 16
@@ -58,6 +61,9 @@ pub record IsValid (b : Bundle) : Type 0 where
   pub traces : length b.traces ≡ b.cpus
   pub steps : All (λ trace. All (IsStepWithin (length b.names) (length b.types) b.rounds) trace) b.traces
   pub few_steps : sum_by length b.traces ≤ 1000000
+  -- along a trace the rounds do not fall
+  pub in_rounds : All (IsNonDecreasingBy (λ line. line.round)) b.traces
+  pub order : IfSome b.order (AreInTurn b 0 (counts_in b 0))
 
 -- ---- what is made of a bundle
 

@@ -1,6 +1,8 @@
 //! Laws over the definitions, each the contract of a function that does nothing.
 ghost use Rattle.kz_model.specs.Laws.{AsksNothing, IsLocal, StepsAlone, LeavesOthers, KeepsOthers, Commutes, OpensWhole, WholeIsInOrder, StepsKeepWhole, GrantsApart, NamesDecideNothing, OwnDecides, AgreedAreAlike, GrantedAgree, LiveOnce, OneBlockAtAnAddress, OneEntryAtAnAddress, OneChunkAtAnAddress, OthersGoOn, AnsweredAlikeByLines, AnsweredAlikeWhenSettled, OrderIsAlike, OrderRunIsSame, DefaultOrderIsNext, RunsHaveLogs};
 ghost use Rattle.kz_model.specs.ClassLaws.{ClassIsLeast, NoneIsAboveTheLast, PagesAreLeast, ClassesFit};
+ghost use Rattle.kz_model.specs.PlayLaws.{OrderIsInTurn, OrderIsNext, PlaysAreSound, TurnsHaveLines, LinesAreFew, StockAnswers, OrderRunsAreRuns, OrderedRunsArePlayed, RunsEndSound};
+ghost use Rattle.kz_model.specs.Isolation.{RunsAreIsolated};
 ghost use Rattle.kz_model.specs.ShareLaws.{SharesAreWithin, SharesSpend, SharesAreFairest, OneForEach, OneMoreForNext, RestIsUnused};
 
 /// A step that needs no visit asks nothing, and its effect depends on what its CPU has alone.
@@ -50,6 +52,28 @@ pub fn delayed_runs_answer_alike()
     ensures order { OrderIsAlike }
     ensures run { OrderRunIsSame }
     ensures default { DefaultOrderIsNext }
+{}
+
+/// An order is played line by line.
+pub fn orders_are_played()
+    ensures turns { OrderIsInTurn }
+    ensures next { OrderIsNext }
+    ensures sound { PlaysAreSound }
+    ensures lines { TurnsHaveLines }
+    ensures few { LinesAreFew }
+    ensures stock { StockAnswers }
+    ensures run { OrderedRunsArePlayed }
+    ensures end { RunsEndSound }
+{}
+
+/// An order makes a run of its bundle.
+pub fn orders_make_runs()
+    ensures { OrderRunsAreRuns }
+{}
+
+/// A run keeps its zones apart: each answers as it does alone, and no address is of two blocks.
+pub fn runs_keep_zones_apart()
+    ensures { RunsAreIsolated }
 {}
 
 /// The class of a size is the least that holds it, and its chunk has the least pages.

@@ -17,8 +17,8 @@ pub use bundle::{Act, Bundle, Field, Kind, NameRow, OrderLine, Seed, TraceStep, 
 pub use grammar::{Cause, Counted, Header, Mark, Place, Refusal};
 pub use laws::{
     addresses_are_sequestered, agreement_decides, classes_are_least, delayed_runs_answer_alike,
-    delays_change_nothing, each_element_is_in_one_place, shares_are_fair,
-    steps_without_a_visit_are_local,
+    delays_change_nothing, each_element_is_in_one_place, orders_are_played, orders_make_runs,
+    runs_keep_zones_apart, shares_are_fair, steps_without_a_visit_are_local,
 };
 pub use layout::{LayoutCause, LayoutFault};
 pub use record::{Geometry, Layout, Plan, Record, Room, Visit, ZoneParams, ZoneRow};

@@ -10,3 +10,4 @@ pub mod Homes
 pub mod Order
 pub mod Presence
 pub mod Plans
+pub mod Fit

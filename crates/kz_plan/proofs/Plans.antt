@@ -1,5 +1,5 @@
 -- The parts of a plan, and that they make the definition's.
-use Rattle.std.proofs.Common.{◌≡◌, ℕ, zero, suc, ◌+◌, ◌-◌, ◌<◌, ◌≤◌, ◌==◌, ◌&&◌, ◌||◌, not, Bool, true, false, cond, List, [], ◌∷◌, length, map, sum, All, None, Some, is_some, unwrap_or, refl, ap, sym, ◌∙◌, subst, arith, slice_index, lit<}
+use Rattle.std.proofs.Common.{◌≡◌, ℕ, zero, suc, ◌+◌, ◌-◌, ◌<◌, ◌≤◌, ◌==◌, ◌&&◌, ◌||◌, not, nat_lt, nat_le, Bool, true, false, cond, List, [], ◌∷◌, length, map, sum, All, None, Some, is_some, unwrap_or, refl, ap, sym, ◌∙◌, subst, arith, slice_index, lit<}
 use Rattle.std.proofs.Math.ListN.{get_or}
 use Rattle.std.proofs.lemmas.Slice.Eq.{bytes_eq-Decides}
 use Rattle.std.proofs.lemmas.Bool.Decides.{nat_tests}
@@ -9,19 +9,18 @@ use Rattle.std.proofs.lemmas.List.FromFn.{length-range_with_len}
 use Rattle.std.proofs.lemmas.List.Sums.{length-filter, count_by-le-length, sum_by-le}
 use Rattle.std.proofs.lemmas.Map.Keys.{IsDistinct-IsPermutation}
 use Rattle.std.proofs.lemmas.List.Quantifiers.{position-Some}
-use Rattle.std.specs.List.{filter, list_any, position, range_with_len}
+use Rattle.std.specs.List.{filter, list_any, position, position_or_len, range_with_len}
 use Rattle.std.specs.Str.{bytes_eq}
 use Rattle.kz_model.specs.declared.bundle.Seed.{Seed}
 use Rattle.kz_model.specs.declared.record.Layout.{Layout}
 use Rattle.kz_model.specs.declared.record.Plan.{Plan}
 use Rattle.kz_model.specs.declared.record.ZoneRow.{ZoneRow}
-use Rattle.kz_model.specs.Class.{class_of, kalloc_sizes, IsTable}
+use Rattle.kz_model.specs.Class.{kalloc_sizes}
 use Rattle.kz_model.specs.Cover.{is_data_only}
 use Rattle.kz_model.specs.Layouts.{is}
 use Rattle.kz_model.specs.Share.{share}
 use Rattle.kz_model.specs.ShareLaws.{AreWithin}
 use Rattle.kz_model.specs.Plan.{Signature, Group, Deal, all_classes, class_at, classes_in_use, data_classes, is_general, is_data, signatures, shuffled, groups_from, groups_of, deals_from, deals_of, parts_of, general_zone, data_zone, zone_among, rows_among, plan_of_deals, plan_of}
-use Rattle.kz_model.proofs.Classes.{class_is_least, table_from_test}
 use Rattle.kz_plan.specs.Shown.{AreDistinct}
 use Rattle.kz_plan.specs.Homes.{HasBucket, HasDataZone, HasZone, AreInRow, AreZones}
 use Rattle.kz_plan.specs.Parts.{counts_of, AreGroups, AreParts}
@@ -74,21 +73,23 @@ all_classes-below = classes-below 0 32
 pub data_classes-below : (layouts : List Layout) → All (λ class. class < 32) (data_classes layouts)
 data_classes-below layouts = All-filter (λ class. list_any (is_data class) layouts) (λ class. class < 32) all_classes all_classes-below
 
+pub classes_in_use-below : (layouts : List Layout) → All (λ class. class < 32) (classes_in_use layouts)
+classes_in_use-below layouts = All-filter (λ class. list_any (is_general class) layouts) (λ class. class < 32) all_classes all_classes-below
+
 among-all : (p : ℕ → Bool) (class : ℕ) → class < 32 → p class ≡ true → list_any (λ o. class == o) (filter p all_classes) ≡ true
 unfolding all_classes
 among-all p class inside passes = any-filtered p 0 32 class (omega arith) (omega arith) passes
 
--- a size that isn't above the last has a class
-class-inside : (sizes : List ℕ) (size n : ℕ) → IsTable sizes → length sizes ≡ n → size ≤ slice_index sizes (length sizes - 1) → 0 < n → unwrap_or (class_of sizes size) 0 < n
-class-inside sizes size n table many fits some =
-    elim (class_of sizes size) as (λ o. class_of sizes size ≡ o → unwrap_or o 0 < n) [
-      | None ↦ λ e. omega arith
-      | Some class ↦ λ e. let l = (class_is_least sizes size class).0 e in omega (arith, l.inside)
+place-below : (place n : ℕ) → 0 < n → unwrap_or (cond (nat_lt place n) (Some place) None) 0 < n
+place-below place n some =
+    elim (nat_lt place n) as (λ b. nat_lt place n ≡ b → unwrap_or (cond b (Some place) None) 0 < n) [
+      | true ↦ λ e. grind (arith, nat_tests)
+      | false ↦ λ e. some
     ] refl
 
-pub class_at-inside : (layout : Layout) → layout.size ≤ 8192 → class_at layout < 32
+pub class_at-below : (layout : Layout) → class_at layout < 32
 unfolding class_at
-class_at-inside layout fits = class-inside kalloc_sizes layout.size 32 (table_from_test kalloc_sizes refl) refl fits (lit< tt)
+class_at-below layout = place-below (position_or_len (λ element. nat_le layout.size element) kalloc_sizes) 32 (lit< tt)
 
 -- ---- groups
 
@@ -160,10 +161,10 @@ deals-row groups parts are =
     let e : 0 + sum parts ≡ sum parts = omega arith in subst (λ last. AreInRow 0 last (deals_from 0 groups parts)) e (deals-in_row 0 groups parts are.together are.some)
 
 general-there : (layouts : List Layout) (seed : Seed) (parts : List ℕ) (layout : Layout) → length parts ≡ length (groups_of layouts seed) → list_any (is_general (class_at layout)) layouts ≡ true →
-    list_any (λ other. is_general (class_at layout) other && is layout.letters other.letters) layouts ≡ true → layout.size ≤ 8192 → HasBucket (deals_from 0 (groups_of layouts seed) parts) layout
-general-there layouts seed parts layout together used letters fits =
+    list_any (λ other. is_general (class_at layout) other && is layout.letters other.letters) layouts ≡ true → HasBucket (deals_from 0 (groups_of layouts seed) parts) layout
+general-there layouts seed parts layout together used letters =
     bucket-there layouts seed 0 0 (class_at layout) (classes_in_use layouts) parts layout.letters (together ∙ groups_of-length layouts seed)
-    (among-all (λ class. list_any (is_general class) layouts) (class_at layout) (class_at-inside layout fits) used)
+    (among-all (λ class. list_any (is_general class) layouts) (class_at layout) (class_at-below layout) used)
     (has-signatures layout.letters layouts (class_at layout) ∙ letters)
 
 same-class : (class : ℕ) → (class == class) ≡ true
@@ -172,14 +173,14 @@ same-class class = grind (arith, nat_tests)
 same-letters : (letters : Signature) → is letters letters ≡ true
 same-letters letters = (bytes_eq-Decides letters letters).1 refl
 
-pub zones-there : (layouts : List Layout) (seed : Seed) (parts : List ℕ) → length parts ≡ length (groups_of layouts seed) → All (λ layout. layout.size ≤ 8192) layouts →
+pub zones-there : (layouts : List Layout) (seed : Seed) (parts : List ℕ) → length parts ≡ length (groups_of layouts seed) →
     All (HasZone (deals_from 0 (groups_of layouts seed) parts) (data_classes layouts)) layouts
-zones-there layouts seed parts together fits k d inside = record { in_data = in_data; in_bucket = in_bucket }
+zones-there layouts seed parts together k d inside = record { in_data = in_data; in_bucket = in_bucket }
   where
     in_data : is_data_only (get_or layouts k d) ≡ true → HasDataZone (data_classes layouts) (get_or layouts k d)
     in_data only =
         place-there (λ other. class_at (get_or layouts k d) == other) (data_classes layouts)
-        (among-all (λ class. list_any (is_data class) layouts) (class_at (get_or layouts k d)) (class_at-inside (get_or layouts k d) (fits k d inside))
+        (among-all (λ class. list_any (is_data class) layouts) (class_at (get_or layouts k d)) (class_at-below (get_or layouts k d))
         (any-at (is_data (class_at (get_or layouts k d))) layouts k d inside (ap (λ b. b && is_data_only (get_or layouts k d)) (same-class (class_at (get_or layouts k d))) ∙ only)))
 
     in_bucket : is_data_only (get_or layouts k d) ≡ false → HasBucket (deals_from 0 (groups_of layouts seed) parts) (get_or layouts k d)
@@ -190,7 +191,6 @@ zones-there layouts seed parts together fits k d inside = record { in_data = in_
         (any-at (is_general (class_at (get_or layouts k d))) layouts k d inside general)
         (any-at (λ o. is_general (class_at (get_or layouts k d)) o && is (get_or layouts k d).letters o.letters) layouts k d inside
         (ap (λ b. b && is (get_or layouts k d).letters (get_or layouts k d).letters) general ∙ same-letters (get_or layouts k d).letters))
-        (fits k d inside)
 
 -- ---- each zone is one of them
 
@@ -236,10 +236,10 @@ zones-are layouts groups parts deals general are dealt count = record {
 }
 
 pub types-there : (layouts : List Layout) (seed : Seed) (groups : List Group) (parts : List ℕ) (deals : List Deal) → groups ≡ groups_of layouts seed → AreParts groups parts → deals ≡ deals_from 0 groups parts →
-    All (λ layout. layout.size ≤ 8192) layouts → All (HasZone deals (data_classes layouts)) layouts
-types-there layouts seed groups parts deals grouped are dealt fits =
+    All (HasZone deals (data_classes layouts)) layouts
+types-there layouts seed groups parts deals grouped are dealt =
     let given : deals ≡ deals_from 0 (groups_of layouts seed) parts = dealt ∙ ap (λ gs. deals_from 0 gs parts) grouped in
-    subst (λ (ds : List Deal). All (HasZone ds (data_classes layouts)) layouts) (sym given) (zones-there layouts seed parts (are.together ∙ ap length grouped) fits)
+    subst (λ (ds : List Deal). All (HasZone ds (data_classes layouts)) layouts) (sym given) (zones-there layouts seed parts (are.together ∙ ap length grouped))
 
 pub zones-below : (layouts : List Layout) (deals : List Deal) (general : ℕ) (classes of_type : List ℕ) → AreZones deals general classes → All (HasZone deals classes) layouts → of_type ≡ map (zone_among deals general classes) layouts →
     All (λ zone. zone < general + length classes) of_type

@@ -1,4 +1,5 @@
 //! Laws over the definition of the plan, each the contract of a function that does nothing.
+ghost use Rattle.kz_model.specs.Planned.{PlansAreFit};
 ghost use Rattle.kz_plan.specs.Laws.{SignaturesRise, SignaturesAreThoseOfTypes, ShufflesKeepAll};
 
 /// A class deals the signatures of its types that aren't data-only, each once.
@@ -6,4 +7,9 @@ pub fn signatures_are_dealt_once()
     ensures rising { SignaturesRise }
     ensures exact { SignaturesAreThoseOfTypes }
     ensures kept { ShufflesKeepAll }
+{}
+
+/// The plan of a valid bundle has a zone for each type, each with the chunk of a class.
+pub fn plans_are_fit()
+    ensures { PlansAreFit }
 {}

@@ -14,5 +14,5 @@ mod zones;
 pub use division::share;
 pub use fault::PlanFault;
 pub use grouping::general_classes;
-pub use laws::signatures_are_dealt_once;
+pub use laws::{plans_are_fit, signatures_are_dealt_once};
 pub use planning::plan;

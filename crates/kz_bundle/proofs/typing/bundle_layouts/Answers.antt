@@ -1,5 +1,5 @@
 use Rattle.std.proofs.Common.{arith}
-use Rattle.kz_bundle.proofs.Layings.{layouts_of-length}
+use Rattle.kz_model.proofs.LaidOut.{layouts_of-length}
 use Rattle.kz_bundle.proofs.typing.bundle_layouts.Goals as goal
 
 pub returns-in-Ok-clause-few : goal.returns-in-Ok-clause-few

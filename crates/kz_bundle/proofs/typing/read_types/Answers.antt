@@ -1,5 +1,5 @@
 use Rattle.std.proofs.Common.{length, ap, arith}
-use Rattle.kz_bundle.proofs.Layings.{layouts_of-length}
+use Rattle.kz_model.proofs.LaidOut.{layouts_of-length}
 use Rattle.kz_bundle.proofs.typing.read_types.Goals as goal
 
 pub general_classes-requires-clause-few : goal.general_classes-requires-clause-few

@@ -31,7 +31,6 @@ plan_of_deals-requires-clause-there c =
     types-there c.args.layouts.now c.args.seed groups parts c.deref-4.result.now refl
     (subst (λ (gs : List Group). AreParts gs parts) (c.deref.ensures.value ∙ c.in_ok-groups.ensures) c.in_ok-parts.ensures.parts)
     (dealt-same c.deref-4.result.now c.in_ok-deals.deals.items c.deref-2.result.now groups c.deref-3.result.now parts c.deref-4.ensures.value c.in_ok-deals.ensures (c.deref-2.ensures.value ∙ c.in_ok-groups.ensures) c.deref-3.ensures.value)
-    c.requires.sizes
 
 pub returns-clause-planned : goal.returns-clause-planned
 returns-clause-planned c =

@@ -1,0 +1,45 @@
+-- Sums over the numbers below one.
+use Rattle.std.proofs.Common.{◌≡◌, ◌≢◌, ◌<◌, ◌≤◌, ℕ, zero, suc, ◌+◌, ◌==◌, true, false, refl, subst, arith}
+use Rattle.kz_model.specs.Amounts.{sum_below}
+
+pub sum_below-same : (f g : ℕ → ℕ) (n : ℕ) → ((k : ℕ) → k < n → f k ≡ g k) → sum_below f n ≡ sum_below g n
+sum_below-same f g zero same = refl
+sum_below-same f g (suc n) same = omega (arith, sum_below-same f g n (λ k lt. same k (omega arith)), same n (omega arith))
+
+pub sum_below-zero : (f : ℕ → ℕ) (n : ℕ) → ((k : ℕ) → k < n → f k ≡ 0) → sum_below f n ≡ 0
+sum_below-zero f zero none = refl
+sum_below-zero f (suc n) none = omega (arith, sum_below-zero f n (λ k lt. none k (omega arith)), none n (omega arith))
+
+pub sum_below-le : (f g : ℕ → ℕ) (n : ℕ) → ((k : ℕ) → k < n → f k ≤ g k) → sum_below f n ≤ sum_below g n
+sum_below-le f g zero le = omega arith
+sum_below-le f g (suc n) le = omega (arith, sum_below-le f g n (λ k lt. le k (omega arith)), le n (omega arith))
+
+-- one number of the sum is another
+pub sum_below-set : (f g : ℕ → ℕ) (n at : ℕ) → at < n → ((k : ℕ) → k < n → k ≢ at → g k ≡ f k) → sum_below g n + f at ≡ sum_below f n + g at
+sum_below-set f g zero at lt same = absurd (omega arith)
+sum_below-set f g (suc n) at lt same =
+    elim (at == n) as (λ b. (at == n) ≡ b → sum_below g (suc n) + f at ≡ sum_below f (suc n) + g at) [
+      | true ↦ λ e.
+          let is : at ≡ n = grind arith in
+          last is (sum_below-same g f n (λ k below. same k (omega arith) (λ k_is. absurd (omega arith))))
+      | false ↦ λ e.
+          let ne : at ≢ n = grind arith in
+          omega (arith, sum_below-set f g n at (omega arith) (λ k below other. same k (omega arith) other), same n (omega arith) (λ n_is. absurd (omega arith)))
+    ] refl
+  where
+    last : at ≡ n → sum_below g n ≡ sum_below f n → sum_below g (suc n) + f at ≡ sum_below f (suc n) + g at
+    last is same = subst (λ n. sum_below g n ≡ sum_below f n → sum_below g (suc n) + f at ≡ sum_below f (suc n) + g at) is (λ same. omega (arith, same)) same
+
+-- less in one place and no more in others
+pub sum_below-lt : (f g : ℕ → ℕ) (n at : ℕ) → at < n → f at < g at → ((k : ℕ) → k < n → f k ≤ g k) → sum_below f n < sum_below g n
+sum_below-lt f g zero at lt less le = absurd (omega arith)
+sum_below-lt f g (suc n) at lt less le =
+    elim (at == n) as (λ b. (at == n) ≡ b → sum_below f (suc n) < sum_below g (suc n)) [
+      | true ↦ λ e.
+          let is : at ≡ n = grind arith in
+          let last : f n < g n = subst (λ k. f k < g k) is less in
+          omega (arith, sum_below-le f g n (λ k below. le k (omega arith)), last)
+      | false ↦ λ e.
+          let ne : at ≢ n = grind arith in
+          omega (arith, sum_below-lt f g n at (omega arith) less (λ k below. le k (omega arith)), le n (omega arith))
+    ] refl
