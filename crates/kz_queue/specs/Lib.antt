@@ -1,0 +1,3 @@
+pub mod Shelf
+pub mod Ordinals
+pub mod Sets

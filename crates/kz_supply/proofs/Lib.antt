@@ -1,0 +1,5 @@
+pub mod Uses
+pub mod Stocks
+pub mod Logs
+pub mod Rooms
+pub mod Gets

@@ -1,0 +1,14 @@
+use Rattle.std.proofs.Common.{◌∙◌, ap, refl, sym, Some}
+use Rattle.kz_supply.specs.Exchange.{Exchange, ask_for_frames}
+use Rattle.kz_supply.specs.Ready.{exchange_ready, answers_ready}
+use Rattle.kz_supply.proofs.Gets.{base_after_ask}
+use Rattle.kz_supply.proofs.ready.ReadyPagesPages.frames.Goals as goal
+
+pub returns-clause-base : goal.returns-clause-base
+returns-clause-base c =
+    let r = c.self.inside in
+    let ready = sym c.replace.ensures.value ∙ c.in-Frames.is in
+    let exchange : Exchange = (ask_for_frames r.params, c.answer_to_frames.result) in
+    rw (c.replace.ensures.after, c.push_reserved.ensures.items, ← c.self.view_is)
+    (base_after_ask r.params r.chunks r.readied r.exchanges.items r.waiting.items exchange
+    (ap (exchange_ready r.params) ready ∙ ap (λ a. Some (ask_for_frames r.params, a)) (sym c.answer_to_frames.ensures)) (ap answers_ready ready) refl c.self.invariant.once)
