@@ -42,3 +42,4 @@ pub mod Printed
 pub mod Outlines
 pub mod Zoned
 pub mod Counting
+pub mod Keys

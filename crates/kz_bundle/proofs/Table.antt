@@ -1,8 +1,7 @@
 -- A table of texts, each once, and a map that finds their numbers, after one more text.
 use Rattle.std.proofs.Common.{◌≡◌, ◌⊎◌, inl, inr, ℕ, zero, suc, ◌+◌, ◌<◌, ◌≤◌, Bool, true, false, ◌||◌, if◌then◌else◌, List, [], ◌∷◌, ◌++◌, length, Some, None, cond, refl, ap, sym, ◌∙◌, ⊎_elim, arith, length-append}
-use Rattle.std.specs.Map.{lookup, KeepsOthers}
 use Rattle.std.specs.Str.{bytes_eq}
-use Rattle.std.specs.Cmp.Lexicographic.{bytes_decides, nat_list_eq_equiv}
+use Rattle.std.specs.Cmp.Lexicographic.{bytes_decides}
 use Rattle.std.proofs.lemmas.Bool.{cases_Bool, cond-true, cond-false, or_left, or_right, or_parts}
 use Rattle.std.proofs.Math.Nat.{eq-or-lt_of_le}
 use Rattle.std.proofs.Math.Seq.{get_or-append_seam}
@@ -11,7 +10,8 @@ use Rattle.std.proofs.lemmas.List.Folds.{list_any-append}
 use Rattle.kz_model.specs.Stages.{has, place_of}
 use Rattle.kz_model.specs.Spelling.{text_at}
 use Rattle.kz_bundle.specs.Parts.{AreOnce}
-use Rattle.kz_bundle.specs.Table.{number_of, FindsTexts}
+use Rattle.kz_bundle.specs.declared.index.Index.{Index}
+use Rattle.kz_bundle.specs.Table.{number_of, AreBytes, found, FindsTexts}
 
 -- ---- where a text stands
 
@@ -111,28 +111,14 @@ not_there text table e = by (has text table) refl
     by true h = absurd (let told : number_of text table ≡ Some (place_of text table) = number_of-at text table true (place_of text table) h refl in cc)
     by false h = h
 
--- ---- the map
+-- ---- the index
 
-apart : (bs cs ks : List ℕ) → bytes_eq bs cs ≡ false → bytes_eq bs ks ≡ true → bytes_eq cs ks ≡ false
-apart bs cs ks n y = nat_list_eq_equiv.symm cs ks ∙ sym (nat_list_eq_equiv.congr bs ks cs y) ∙ n
-
-module _ {K : Type 0} (bytes : K → List ℕ) where
-  others_stay : (key : K) (old new : List (K × ℕ)) → KeepsOthers (λ x y. bytes_eq (bytes x) (bytes y)) (λ k. bytes_eq (bytes key) (bytes k)) old new →
-      (q : List ℕ) → bytes_eq (bytes key) q ≡ false → lookup (λ k. bytes_eq q (bytes k)) new ≡ lookup (λ k. bytes_eq q (bytes k)) old
-  unfolding KeepsOthers
-  others_stay key old new keeps q e =
-      keeps (λ k. bytes_eq q (bytes k)) (λ x y. nat_list_eq_equiv.congr q (bytes x) (bytes y)) (λ k. apart (bytes key) q (bytes k) e)
-
-  -- after a text that was not there
-  pub finds_more : (key : K) (old new : List (K × ℕ)) (table : List (List ℕ)) → has (bytes key) table ≡ false →
-      lookup (λ k. bytes_eq (bytes key) (bytes k)) new ≡ Some (length table) → KeepsOthers (λ x y. bytes_eq (bytes x) (bytes y)) (λ k. bytes_eq (bytes key) (bytes k)) old new →
-      FindsTexts bytes old table → FindsTexts bytes new (table ++ bytes key ∷ [])
-  finds_more key old new table new_text here keeps finds = λ q.
-      (⊎_elim
-      (λ y. ap (λ q. lookup (λ k. bytes_eq q (bytes k)) new) (sym ((bytes_decides (bytes key) q).0 y)) ∙ here ∙ sym (cond-true (bytes_eq (bytes key) q) (Some (length table)) (number_of q table) y))
-      (λ n. others_stay key old new keeps q n ∙ finds q ∙ sym (cond-false (bytes_eq (bytes key) q) (Some (length table)) (number_of q table) n))
-      (cases_Bool (bytes_eq (bytes key) q)))
-      ∙ sym (number_of-push q (bytes key) table new_text)
+-- after a text that was not there
+pub finds_more : (text : List ℕ) (number : ℕ) (old new : Index) (table : List (List ℕ)) → has text table ≡ false → number ≡ length table →
+    ((other : List ℕ) → AreBytes other → found new other ≡ cond (bytes_eq text other) (Some number) (found old other)) → FindsTexts old table → FindsTexts new (table ++ text ∷ [])
+finds_more text number old new table new_text is more finds = λ other bytes.
+    more other bytes ∙ ap (λ n. cond (bytes_eq text other) (Some n) (found old other)) is ∙ ap (λ n. cond (bytes_eq text other) (Some (length table)) n) (finds other bytes)
+    ∙ sym (number_of-push other text table new_text)
 
 -- ---- each text once
 

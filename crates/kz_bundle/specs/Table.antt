@@ -1,10 +1,11 @@
 -- A table from texts to their numbers.
-use Rattle.std.specs.Prelude.{◌≡◌, ℕ, if◌then◌else◌, List, [], ◌∷◌, ◌++◌, Option, Some, None}
+use Rattle.std.specs.Prelude.{◌≡◌, ℕ, ◌+◌, ◌*◌, ◌<◌, if◌then◌else◌, List, [], ◌∷◌, ◌++◌, length, All, Option, Some, None, nat_eq, nat_le}
 use Rattle.std.specs.Map.{lookup}
 use Rattle.std.specs.Str.{bytes_eq}
 use Rattle.std.specs.Option.{option_map_or}
 use Rattle.kz_model.specs.Steps.{Said}
 use Rattle.kz_model.specs.Stages.{has, place_of, name_in, type_in}
+use Rattle.kz_bundle.specs.declared.index.Index.{Index}
 
 -- the texts with one more, where it isn't there
 abbrev pub with_text : List ℕ → List (List ℕ) → List (List ℕ)
@@ -14,9 +15,21 @@ with_text text table = if has text table then table else table ++ text ∷ []
 abbrev pub number_of : List ℕ → List (List ℕ) → Option ℕ
 number_of text table = if has text table then Some (place_of text table) else None
 
--- a map from keys, each with its bytes, finds the number of each of these texts
-abbrev pub FindsTexts : {K : Type 0} → (K → List ℕ) → List (K × ℕ) → List (List ℕ) → Type 0
-FindsTexts bytes entries table = (text : List ℕ) → lookup (λ key. bytes_eq text (bytes key)) entries ≡ number_of text table
+abbrev pub AreBytes : List ℕ → Type 0
+AreBytes text = All (λ byte. byte < 256) text
+
+-- a text packed into a number, which no other text of bytes has
+abbrev pub key_of : List ℕ → ℕ
+key_of [] = 1
+key_of (byte ∷ text) = byte + 256 * key_of text
+
+-- the number that an index has for a text: a short one is found by its key
+abbrev pub found : Index → List ℕ → Option ℕ
+found index text = if nat_le (length text) 7 then lookup (nat_eq (key_of text)) index.short.entries else lookup (λ key. bytes_eq text key.now) index.long.entries
+
+-- an index finds the number of each of these texts
+abbrev pub FindsTexts : Index → List (List ℕ) → Type 0
+FindsTexts index table = (text : List ℕ) → AreBytes text → found index text ≡ number_of text table
 
 -- the tables after a step line
 abbrev pub names_after : Said → List (List ℕ) → List (List ℕ)

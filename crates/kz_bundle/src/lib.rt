@@ -7,6 +7,7 @@ mod check;
 mod entry;
 mod fault;
 mod form;
+mod index;
 mod label;
 mod laws;
 mod lines;

@@ -5,14 +5,14 @@ ghost use Rattle.kz_model.specs.Spelling.{text_at};
 ghost use Rattle.kz_bundle.specs.Parts.{texts, AreOnce};
 ghost use Rattle.kz_bundle.specs.Table.{with_text};
 
+use crate::index::Index;
 use std::alloc::{AllocError, Global};
-use std::collections::HashMap;
 use std::marker::Model;
 
 /// Texts in the order in which they came, each once.
 #[derive(Drop)]
 pub struct Names<'a> {
-    numbers: HashMap<&'a [u8], u32>,
+    numbers: Index<'a>,
     table: Vec<&'a [u8]>,
 }
 
@@ -25,7 +25,7 @@ impl<'a> Model for Names<'a> {
 
     ghost view = { λ n. texts n.table.items };
 
-    ghost invariant = { λ n. FindsTexts (λ key. key.now) n.numbers.entries (texts n.table.items) × AreOnce (texts n.table.items) };
+    ghost invariant = { λ n. FindsTexts n.numbers (texts n.table.items) × AreOnce (texts n.table.items) };
 }
 
 /// Appends where there is room.
@@ -41,7 +41,7 @@ impl<'a> Names<'a> {
         ensures { result ≡ [] }
     {
         Names {
-            numbers: HashMap::new(alloc),
+            numbers: Index::new(alloc),
             table: Vec::new(alloc),
         }
     }
@@ -55,7 +55,7 @@ impl<'a> Names<'a> {
         ensures names { OnOk result (self.new ≡ with_text text.now self.old) }
         ensures err { OnErr result (self.new ≡ self.old) }
     {
-        match self.numbers.get(&text).copied() {
+        match self.numbers.get(text) {
             Some(number) => Ok(number),
             None => {
                 let number = self.table.len() as u32;
