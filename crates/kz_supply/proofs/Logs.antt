@@ -69,18 +69,45 @@ free_after stock (Back pages) (NoSpace left) = omega arith
 free_after stock (Back pages) (NoFrames free) = omega arith
 free_after stock (Back pages) Taken = omega arith
 
+-- how many frames an ask may take
+abbrev pub asked_for : Ask → ℕ
+asked_for (Chunk submap pages) = pages
+asked_for (Frames pages) = pages
+asked_for (Back pages) = 0
+
+-- no more frames are taken than are asked for
+pub free_kept : (stock : Stock) (ask : Ask) (answer : Answer) → stock.free ≤ (stock_after stock ask answer).free + asked_for ask
+free_kept stock (Chunk submap pages) (Base page) = omega arith
+free_kept stock (Chunk submap pages) Given = omega arith
+free_kept stock (Chunk submap pages) (NoSpace left) = omega arith
+free_kept stock (Chunk submap pages) (NoFrames free) = omega arith
+free_kept stock (Chunk submap pages) Taken = omega arith
+free_kept stock (Frames pages) (Base page) = omega arith
+free_kept stock (Frames pages) Given = omega arith
+free_kept stock (Frames pages) (NoSpace left) = omega arith
+free_kept stock (Frames pages) (NoFrames free) = omega arith
+free_kept stock (Frames pages) Taken = omega arith
+free_kept stock (Back pages) (Base page) = omega arith
+free_kept stock (Back pages) Given = omega arith
+free_kept stock (Back pages) (NoSpace left) = omega arith
+free_kept stock (Back pages) (NoFrames free) = omega arith
+free_kept stock (Back pages) Taken = omega arith
+
 -- one more entry, and what is then left
-pub kept_more : (left new : Stock) (capacity now : ℕ) (entry : SupplyEntry) (s : Supply) → IsKept left capacity s → length s.log < s.room → capacity ≤ now → entry.answer ≡ answer_of s.pages left entry.ask → new ≡ stock_after left entry.ask entry.answer →
-    given_back entry.ask ≤ frames_out s → IsKept new now (with_entry entry s)
-kept_more left new capacity now entry s before more room answer after few =
+pub kept_more : (left new : Stock) (unmade capacity now : ℕ) (entry : SupplyEntry) (s : Supply) → IsKept left unmade capacity s → length s.log < s.room → capacity ≤ now → entry.answer ≡ answer_of s.pages left entry.ask → new ≡ stock_after left entry.ask entry.answer →
+    given_back entry.ask ≤ frames_out s → asked_for entry.ask ≤ 8 → IsKept new unmade now (with_entry entry s)
+kept_more left new unmade capacity now entry s before more room answer after few small =
+    let size : length (s.log ++ entry ∷ []) ≡ length s.log + 1 = length-append s.log (entry ∷ []) in
+    let kept : left.free ≤ new.free + 8 = omega (arith, small, ap (λ (l : Stock). l.free) after, free_kept left entry.ask entry.answer) in
     let was = before.room in let free = before.free in let same : left.free ≡ (stock_of s).free = ap (λ (l : Stock). l.free) before.left_is in
     let is : new ≡ stock_of (with_entry entry s) = after ∙ ap (λ (l : Stock). stock_after l entry.ask entry.answer) before.left_is ∙ sym (stock_of-with_entry entry s) in
     record {
       left_is = is;
       answers = answered_more entry s before.answers (answer ∙ ap (λ (l : Stock). answer_of s.pages l entry.ask) before.left_is);
       free = let P : Stock → Type 0 = λ l. l.free ≤ s.frames in subst P is (let Q : Stock → Type 0 = λ l. l.free ≤ s.frames in subst Q (sym after) (omega (arith, free_after left entry.ask entry.answer)));
-      most = omega (arith, length-append s.log (entry ∷ []));
+      most = omega (arith, size);
       room = omega arith;
+      enough = λ some. omega (arith, size, kept, before.enough some);
     }
 
 -- exchanges are the pairs of their asks and their answers

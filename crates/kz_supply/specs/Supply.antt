@@ -1,8 +1,9 @@
 -- The supply as contracts see it.
-use Rattle.std.specs.Prelude.{ℕ, ◌≡◌, ◌≤◌, ◌-◌, ◌/◌, List, [], ◌∷◌, ◌++◌, length, map, min}
+use Rattle.std.specs.Prelude.{ℕ, ◌≡◌, ◌≤◌, ◌-◌, ◌*◌, ◌/◌, List, [], ◌∷◌, ◌++◌, length, map, min}
 use Rattle.std.specs.List.{fold}
 use Rattle.kz_model.specs.declared.supply.SupplyEntry.{SupplyEntry}
 use Rattle.kz_supply.specs.Exchange.{Exchange, entries_of}
+use Rattle.kz_supply.specs.Store.{IsEnough}
 use Rattle.kz_model.specs.Supply.{Stock, stocked, stock_after, pages_left, supply_answers}
 
 -- the frames that it began with, the pages of each submap, for how many entries its log has room, and its log
@@ -39,13 +40,14 @@ grants_left submap pages s = pages_left s.pages (stock_of s) submap / pages
 abbrev pub AreAnswered : Supply → Type 0
 AreAnswered s = map (λ entry. entry.answer) s.log ≡ supply_answers s.frames s.pages (map (λ entry. entry.ask) s.log)
 
--- what is left is what the log leaves, its answers are right, no more is free than there was, and there is room for the whole log
-pub record IsKept (left : Stock) (capacity : ℕ) (s : Supply) : Type 0 where
+-- what is left is what the log leaves, its answers are right, no more is free than there was, there is room for the whole log, and frames are at hand for each entry that it still takes
+pub record IsKept (left : Stock) (unmade capacity : ℕ) (s : Supply) : Type 0 where
   pub left_is : left ≡ stock_of s
   pub answers : AreAnswered s
   pub free : (stock_of s).free ≤ s.frames
   pub most : length s.log ≤ s.room
   pub room : s.room ≤ capacity
+  pub enough : IsEnough (8 * room_left s) unmade left
 
 -- the supply with one entry more
 abbrev pub with_entry : SupplyEntry → Supply → Supply

@@ -1,10 +1,11 @@
 //! What the supply has left: free frames, and a cursor for each submap.
-ghost use Rattle.std.specs.Prelude.{◌≡◌, ◌+◌, ◌-◌, ◌<◌, ◌≤◌, ◌++◌, length, take, All, IfOk, vec_capacity};
+ghost use Rattle.std.specs.Prelude.{◌≡◌, ◌+◌, ◌-◌, ◌*◌, ◌<◌, ◌≤◌, ◌++◌, length, take, All, IfOk, vec_capacity};
 ghost use Rattle.kz_model.specs.declared.supply.Ask.TheVariants.{Chunk as AskChunk, Frames as AskFrames, Back};
 ghost use Rattle.kz_model.specs.declared.supply.Answer.TheVariants.{Taken};
 ghost use Rattle.kz_model.specs.Supply.{stocked, answer_of, stock_after};
 ghost use Rattle.kz_frame.specs.Frames.{zero_frame, zero_frames};
 ghost use Rattle.kz_supply.specs.Exchange.{chunk_answer, frames_answer};
+ghost use Rattle.kz_supply.specs.Store.{IsEnough};
 
 use crate::{Denied, Grant};
 use kz_frame::{Frame, Frames};
@@ -12,36 +13,46 @@ use std::alloc::{AllocError, Global};
 use std::marker::Model;
 
 /// Free frames whose bytes are all 0, and the first page of each submap that was never handed out.
+///
+/// Some of the free frames may be unmade: they are counted, and no memory was taken for them.
 #[derive(Drop)]
 pub(crate) struct Stock {
     free: Vec<Frame>,
     cursors: [u32; 5],
     frames: u32,
     pages: u32,
+    unmade: u32,
 }
 
 impl Model for Stock {
-    ghost use Rattle.std.specs.Prelude.{length, vec_capacity};
+    ghost use Rattle.std.specs.Prelude.{◌+◌, length, vec_capacity};
     ghost use Rattle.kz_supply.specs.Store.{Store, IsStore};
 
     ghost Value = { Store };
 
-    ghost view = { λ s. record { frames = s.frames; pages = s.pages; left = record { free = length s.free.items; cursors = s.cursors } } };
+    ghost view = { λ s. record { frames = s.frames; pages = s.pages; left = record { free = length s.free.items + s.unmade; cursors = s.cursors }; unmade = s.unmade } };
 
-    ghost invariant = { λ s. IsStore s.frames s.pages (vec_capacity s.free) s.free.items s.cursors };
+    ghost invariant = { λ s. IsStore s.frames s.pages s.unmade (vec_capacity s.free) s.free.items s.cursors };
 }
 
 impl Stock {
-    /// So many free frames, and so many pages in each submap.
-    pub(crate) fn new(alloc: Global, frames: u32, pages: u32) -> Result<Stock, AllocError>
-        ensures { IfOk result (λ stock. stock ≡ record { frames = frames; pages = pages; left = stocked frames }) }
+    /// So many free frames, and so many pages in each submap. No more frames are made than so many entries of a log can take, at most eight each.
+    pub(crate) fn new(
+        alloc: Global,
+        frames: u32,
+        pages: u32,
+        entries: u32,
+    ) -> Result<Stock, AllocError>
+        ensures { IfOk result (λ stock. stock ≡ record { frames = frames; pages = pages; left = stocked frames; unmade = frames - 8 * entries }) }
     {
-        let free = new_frames(alloc, frames)?;
+        let made = frames.min(entries.saturating_mul(8));
+        let free = new_frames(alloc, made)?;
         Ok(Stock {
             free,
             cursors: [0; 5],
             frames,
             pages,
+            unmade: frames - made,
         })
     }
 
@@ -49,6 +60,7 @@ impl Stock {
     pub(crate) fn chunk(&mut self, submap: u32, pages: u32) -> Result<Grant, Denied>
         requires submap { submap < 5 }
         requires few { pages ≤ 8 }
+        requires enough { IsEnough pages self.old.unmade self.old.left }
         ensures answer { chunk_answer result ≡ answer_of self.old.pages self.old.left (AskChunk submap pages) }
         ensures left { self.new ≡ record self.old { left = stock_after self.old.left (AskChunk submap pages) (chunk_answer result) } }
         ensures zero { IfOk result (λ grant. grant.frames ≡ zero_frames pages) }
@@ -65,12 +77,13 @@ impl Stock {
 
     /// Frames for so many pages.
     pub(crate) fn frames(&mut self, pages: u32) -> Result<Frames, Denied>
-        requires { pages ≤ 8 }
+        requires few { pages ≤ 8 }
+        requires enough { IsEnough pages self.old.unmade self.old.left }
         ensures answer { frames_answer result ≡ answer_of self.old.pages self.old.left (AskFrames pages) }
         ensures left { self.new ≡ record self.old { left = stock_after self.old.left (AskFrames pages) (frames_answer result) } }
         ensures zero { IfOk result (λ frames. frames ≡ zero_frames pages) }
     {
-        let free = self.free.len() as u32;
+        let free = self.free.len() as u32 + self.unmade;
         if free < pages {
             return Err(Denied::NoFrames { free });
         }

@@ -33,15 +33,17 @@ impl Model for Supply {
 
     ghost view = { λ s. record { frames = s.stock.frames; pages = s.stock.pages; room = s.room; log = s.log.items } };
 
-    ghost invariant = { λ s. IsKept s.stock.left (vec_capacity s.log) (record { frames = s.stock.frames; pages = s.stock.pages; room = s.room; log = s.log.items }) };
+    ghost invariant = { λ s. IsKept s.stock.left s.stock.unmade (vec_capacity s.log) (record { frames = s.stock.frames; pages = s.stock.pages; room = s.room; log = s.log.items }) };
 }
 
 impl Supply {
     /// A supply of so many free frames and so many pages in each submap, with room for so many entries in its log.
+    ///
+    /// An entry takes at most eight frames, so memory is taken for at most eight frames an entry.
     pub fn new(alloc: Global, frames: u32, pages: u32, log_room: u32) -> Result<Supply, AllocError>
         ensures { IfOk result (λ supply. supply ≡ record { frames = frames; pages = pages; room = log_room; log = [] }) }
     {
-        let stock = Stock::new(alloc, frames, pages)?;
+        let stock = Stock::new(alloc, frames, pages, log_room)?;
         let log = Vec::with_capacity(alloc, log_room as usize)?;
         Ok(Supply {
             stock,

@@ -90,6 +90,27 @@ fn pages_end_before_frames(rt: HostRuntime) -> Result<(), Fail> {
 }
 
 #[test]
+fn few_entries_of_many_frames(rt: HostRuntime) -> Result<(), Fail> {
+    let mut supply = Supply::new(rt.alloc(), 8192, 16, 2)?;
+    let first = supply.chunk(0, 1, 8);
+    let second = supply.chunk(0, 1, 8);
+    assert_eq!(rt; first.map(|grant| grant.frames.len()), Ok(8));
+    assert_eq!(rt; second.map(|grant| grant.frames.len()), Ok(8));
+    let ask = Ask::Chunk {
+        submap: 1,
+        pages: 8,
+    };
+    let answers = [Answer::Base { page: 0 }, Answer::Base { page: 8 }];
+    let entries = answers.map(|answer| SupplyEntry {
+        zone: 0,
+        ask,
+        answer,
+    });
+    assert_eq!(rt; supply.log(), entries.as_slice());
+    Ok(())
+}
+
+#[test]
 fn a_zone_alone_leaves_its_entries(rt: HostRuntime) -> Result<(), Fail> {
     let mut supply = Supply::new(rt.alloc(), 1, 4, 4)?;
     let params = params();

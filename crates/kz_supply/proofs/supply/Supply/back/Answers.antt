@@ -12,7 +12,7 @@ invariant_of-self c =
     let more = let P : Supply → Type 0 = λ s. length s.log < s.room in subst P (sym c.self.view_is) c.requires.room in
     let out = let P : Supply → Type 0 = λ s. length c.args.frames ≤ frames_out s in subst P (sym c.self.view_is) c.requires.out in
     rw (c.back.ensures, c.push_reserved.ensures.items)
-    (kept_more before.left _ _ _ (record { zone = c.args.zone; ask = Back c.len.result; answer = Taken }) _ c.self.invariant more (omega (arith, c.push_reserved.ensures.capacity)) refl (ap (λ n. stock_after before.left (Back n) Taken) (sym c.len.ensures.len)) (omega (arith, out, c.len.ensures.len)))
+    (kept_more before.left _ _ _ _ (record { zone = c.args.zone; ask = Back c.len.result; answer = Taken }) _ c.self.invariant more (omega (arith, c.push_reserved.ensures.capacity)) refl (ap (λ n. stock_after before.left (Back n) Taken) (sym c.len.ensures.len)) (omega (arith, out, c.len.ensures.len)) (omega arith))
 
 pub returns-clause-answers : goal.returns-clause-answers
 returns-clause-answers c = (invariant_of-self c).answers

@@ -11,7 +11,7 @@ invariant_of-self c =
     let before = c.self.inside.stock in
     let more = let P : Supply → Type 0 = λ s. length s.log < s.room in subst P (sym c.self.view_is) c.requires.room in
     rw (c.chunk-granted.ensures.left, c.push_reserved.ensures.items)
-    (kept_more before.left _ _ _ (record { zone = c.args.zone; ask = Chunk c.args.submap c.args.pages; answer = c.answer_to_chunk-answer.result }) _ c.self.invariant more (omega (arith, c.push_reserved.ensures.capacity)) (c.answer_to_chunk-answer.ensures ∙ c.chunk-granted.ensures.answer) (ap (λ (a : Answer). stock_after before.left (Chunk c.args.submap c.args.pages) a) (sym c.answer_to_chunk-answer.ensures)) (omega arith))
+    (kept_more before.left _ _ _ _ (record { zone = c.args.zone; ask = Chunk c.args.submap c.args.pages; answer = c.answer_to_chunk-answer.result }) _ c.self.invariant more (omega (arith, c.push_reserved.ensures.capacity)) (c.answer_to_chunk-answer.ensures ∙ c.chunk-granted.ensures.answer) (ap (λ (a : Answer). stock_after before.left (Chunk c.args.submap c.args.pages) a) (sym c.answer_to_chunk-answer.ensures)) (omega arith) c.requires.few)
 
 pub returns-clause-answers : goal.returns-clause-answers
 returns-clause-answers c = (invariant_of-self c).answers

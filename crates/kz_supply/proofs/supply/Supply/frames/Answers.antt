@@ -11,7 +11,7 @@ invariant_of-self c =
     let before = c.self.inside.stock in
     let more = let P : Supply → Type 0 = λ s. length s.log < s.room in subst P (sym c.self.view_is) c.requires.room in
     rw (c.frames-given.ensures.left, c.push_reserved.ensures.items)
-    (kept_more before.left _ _ _ (record { zone = c.args.zone; ask = Frames c.args.pages; answer = c.answer_to_frames-answer.result }) _ c.self.invariant more (omega (arith, c.push_reserved.ensures.capacity)) (c.answer_to_frames-answer.ensures ∙ c.frames-given.ensures.answer) (ap (λ (a : Answer). stock_after before.left (Frames c.args.pages) a) (sym c.answer_to_frames-answer.ensures)) (omega arith))
+    (kept_more before.left _ _ _ _ (record { zone = c.args.zone; ask = Frames c.args.pages; answer = c.answer_to_frames-answer.result }) _ c.self.invariant more (omega (arith, c.push_reserved.ensures.capacity)) (c.answer_to_frames-answer.ensures ∙ c.frames-given.ensures.answer) (ap (λ (a : Answer). stock_after before.left (Frames c.args.pages) a) (sym c.answer_to_frames-answer.ensures)) (omega arith) c.requires.few)
 
 pub returns-clause-answers : goal.returns-clause-answers
 returns-clause-answers c = (invariant_of-self c).answers
