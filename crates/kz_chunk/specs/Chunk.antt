@@ -1,0 +1,44 @@
+-- A chunk as contracts see it.
+use Rattle.std.specs.Prelude.{ℕ, ◌+◌, ◌*◌, ◌<◌, ◌≤◌, true, List, take}
+use Rattle.std.specs.List.{range_with_len}
+use Rattle.kz_model.specs.declared.record.Geometry.{Geometry}
+use Rattle.kz_model.specs.Zone.{Chunk as State}
+use Rattle.kz_model.specs.Rules.{with_number, written}
+use Rattle.kz_frame.specs.Frames.{joined}
+
+-- its shape, its first page in its submap, and its state: whether it is mapped, its idle elements and its bytes
+pub record Chunk : Type 0 where
+  pub shape : Geometry
+  pub base : ℕ
+  pub state : State
+
+-- a shape that chunks may have
+pub record IsFitShape (shape : Geometry) : Type 0 where
+  pub least_element : 16 ≤ shape.element
+  pub most_element : shape.element ≤ 8192
+  pub some_count : 0 < shape.count
+  pub most_count : shape.count ≤ 256
+  pub some_pages : 0 < shape.pages
+  pub most_pages : shape.pages ≤ 8
+  pub within : shape.count * shape.element ≤ 4096 * shape.pages
+
+-- a chunk mapped with these frames: all elements are idle, and the bytes are the frames'
+abbrev pub mapped_with : Geometry → List (List ℕ) → State
+mapped_with shape frames =
+    record { mapped = true; idle = range_with_len 0 shape.count; bytes = take (shape.count * shape.element) (joined frames) }
+
+-- where the bytes of an element begin
+abbrev pub first_of : Geometry → ℕ → ℕ
+first_of shape index = index * shape.element
+
+-- the state with an element idle, and with these bytes in place of those from a place on
+abbrev pub with_idle_element : ℕ → State → State
+with_idle_element index state = record state { idle = with_number index state.idle }
+
+abbrev pub with_bytes_at : ℕ → List ℕ → State → State
+with_bytes_at at bytes state = record state { bytes = written at bytes state.bytes }
+
+-- some bytes of an element lie in it
+pub record IsInside (shape : Geometry) (index off len : ℕ) : Type 0 where
+  pub element : index < shape.count
+  pub within : off + len ≤ shape.element
