@@ -1,61 +1,120 @@
--- A row of blocks as lists of a magazine's size, after one more list at the end, and without the last.
-use Rattle.std.proofs.Common.{◌≡◌, ℕ, zero, suc, ◌+◌, ◌-◌, ◌*◌, ◌≤◌, ◌<◌, List, [], ◌∷◌, ◌++◌, length, take, drop, get_or, refl, ap, sym, ◌∙◌, arith, length-drop, length-take, true, false, nat_lt, subst}
-use Rattle.std.proofs.Math.Seq.{take-append_seam, get_or-append_seam}
-use Rattle.std.proofs.lemmas.List.{take-append-le, drop-append-le, take_all, take-append-drop}
+-- Blocks in a row as lists, with one more list at the end and with the last one cut.
+use Rattle.std.proofs.Common.{◌≡◌, ℕ, ◌+◌, ◌-◌, ◌≤◌, ◌<◌, List, [], ◌∷◌, ◌++◌, length, take, drop, refl, ap, sym, ◌∙◌, arith, length-drop, length-take, length-append, true, false, nat_lt, if◌then◌else◌}
+use Rattle.std.specs.List.{sum}
+use Rattle.std.proofs.lemmas.List.{take_at, take-append-le, drop-append-le, take_all, take-append-drop, append-nil, get_or_push}
+use Rattle.std.proofs.lemmas.List.Sums.{sum_by-cons, sum_by_push}
 use Rattle.kz_model.specs.declared.step.Block.{Block}
-use Rattle.kz_zone.specs.Depot.{lists_of}
+use Rattle.kz_model.specs.Rules.{newest, below_newest, last_list, before_last_list}
+use Rattle.kz_zone.specs.Depot.{Depot as Seen, lists_of, row_of, drained, with_rest}
 
-pub length-lists_of : (magazine count : ℕ) (blocks : List Block) → length (lists_of magazine count blocks) ≡ count
-length-lists_of magazine zero blocks = refl
-length-lists_of magazine (suc count) blocks = omega (arith, length-lists_of magazine count (drop magazine blocks))
+sum-cons : (n : ℕ) (ns : List ℕ) → sum (n ∷ ns) ≡ n + sum ns
+sum-cons n ns = sum_by-cons (λ (x : ℕ). x) n ns
+
+pub sum-push : (ns : List ℕ) (n : ℕ) → sum (ns ++ n ∷ []) ≡ sum ns + n
+sum-push ns n = sum_by_push (λ (x : ℕ). x) ns n
+
+pub length-lists_of : (lengths : List ℕ) (blocks : List Block) → length (lists_of lengths blocks) ≡ length lengths
+length-lists_of [] blocks = refl
+length-lists_of (n ∷ lengths) blocks = omega (arith, length-lists_of lengths (drop n blocks))
 
 -- one more list
-pub lists_of-push : (magazine count : ℕ) (blocks more : List Block) → length blocks ≡ count * magazine → length more ≡ magazine → lists_of magazine (suc count) (blocks ++ more) ≡ lists_of magazine count blocks ++ more ∷ []
-lists_of-push magazine zero [] more e l = ap (λ (xs : List Block). xs ∷ []) (take_all magazine more (omega arith))
-lists_of-push magazine zero (b ∷ blocks) more e l = absurd (omega arith)
-lists_of-push magazine (suc count) blocks more e l =
-    let within : magazine ≤ length blocks = grind arith in
-    let rest : length (drop magazine blocks) ≡ count * magazine = grind (arith, length-drop magazine blocks) in
-    rw (take-append-le magazine blocks more within, drop-append-le magazine blocks more within) (ap (λ (xs : List (List Block)). take magazine blocks ∷ xs) (lists_of-push magazine count (drop magazine blocks) more rest l))
+pub lists_of-push : (lengths : List ℕ) (n : ℕ) (blocks more : List Block) → length blocks ≡ sum lengths → length more ≡ n → lists_of (lengths ++ n ∷ []) (blocks ++ more) ≡ lists_of lengths blocks ++ more ∷ []
+lists_of-push [] n [] more e l = ap (λ (xs : List Block). xs ∷ []) (take_all n more (omega arith))
+lists_of-push [] n (b ∷ blocks) more e l = absurd (omega arith)
+lists_of-push (m ∷ lengths) n blocks more e l =
+    let within : m ≤ length blocks = omega (arith, sum-cons m lengths) in
+    let rest : length (drop m blocks) ≡ sum lengths = omega (arith, sum-cons m lengths, length-drop m blocks) in
+    rw (take-append-le m blocks more within, drop-append-le m blocks more within) (ap (λ (xs : List (List Block)). take m blocks ∷ xs) (lists_of-push lengths n (drop m blocks) more rest l))
 
--- without the last list
-pub lists_of_last : (magazine count : ℕ) (blocks : List Block) → length blocks ≡ suc count * magazine → lists_of magazine (suc count) blocks ≡ lists_of magazine count (take (count * magazine) blocks) ++ drop (count * magazine) blocks ∷ []
-lists_of_last magazine count blocks e =
-    let front : length (take (count * magazine) blocks) ≡ count * magazine = grind (arith, length-take (count * magazine) blocks) in
-    let rest : length (drop (count * magazine) blocks) ≡ magazine = grind (arith, length-drop (count * magazine) blocks) in
-    ap (lists_of magazine (suc count)) (sym (take-append-drop (count * magazine) blocks)) ∙ lists_of-push magazine count (take (count * magazine) blocks) (drop (count * magazine) blocks) front rest
+-- the last list is what stands behind the others
+pub lists_of_last : (lengths : List ℕ) (n at : ℕ) (blocks : List Block) → length blocks ≡ sum lengths + n → at ≡ sum lengths → lists_of (lengths ++ n ∷ []) blocks ≡ lists_of lengths (take at blocks) ++ drop at blocks ∷ []
+lists_of_last lengths n at blocks e is =
+    let front : length (take at blocks) ≡ sum lengths = omega (arith, length-take at blocks) in
+    let rest : length (drop at blocks) ≡ n = omega (arith, length-drop at blocks) in
+    ap (lists_of (lengths ++ n ∷ [])) (sym (take-append-drop at blocks)) ∙ lists_of-push lengths n (take at blocks) (drop at blocks) front rest
 
-pub no_room : (magazine count room : ℕ) (blocks : List Block) → count ≡ room → false ≡ nat_lt (length (lists_of magazine count blocks)) room
-no_room magazine count room blocks e = rw (length-lists_of magazine count blocks) (grind arith)
+-- the row of the lists
+pub row-lists_of : (lengths : List ℕ) (blocks : List Block) → length blocks ≡ sum lengths → row_of (lists_of lengths blocks) ≡ blocks
+row-lists_of [] [] e = refl
+row-lists_of [] (b ∷ blocks) e = absurd (omega arith)
+row-lists_of (n ∷ lengths) blocks e =
+    let rest : length (drop n blocks) ≡ sum lengths = omega (arith, sum-cons n lengths, length-drop n blocks) in
+    ap (λ (xs : List Block). take n blocks ++ xs) (row-lists_of lengths (drop n blocks) rest) ∙ take-append-drop n blocks
 
-pub some_room : (magazine count room : ℕ) (blocks : List Block) → count ≤ room → (count ≡ room → ⊥) → true ≡ nat_lt (length (lists_of magazine count blocks)) room
-some_room magazine count room blocks le ne = rw (length-lists_of magazine count blocks) (grind arith)
+-- ---- the last of lists
 
--- what `put` leaves
-pub one_more_list : (magazine count k : ℕ) (blocks given : List Block) → k ≡ count + 1 → length blocks ≡ count * magazine → length given ≡ magazine → lists_of magazine k (blocks ++ given) ≡ lists_of magazine count blocks ++ given ∷ []
-one_more_list magazine count k blocks given e whole one =
-    let s : k ≡ suc count = omega arith in
-    subst (λ n. lists_of magazine n (blocks ++ given) ≡ lists_of magazine count blocks ++ given ∷ []) (sym s) (lists_of-push magazine count blocks given whole one)
+pub last_list-push : (lists : List (List Block)) (blocks : List Block) → last_list (lists ++ blocks ∷ []) ≡ blocks
+last_list-push lists blocks =
+    let place : length lists ≡ length (lists ++ blocks ∷ []) - 1 = omega (arith, length-append lists (blocks ∷ [])) in
+    get_or_push lists blocks [] (length (lists ++ blocks ∷ []) - 1) place
 
--- what `get` gives and leaves, where a list is there and the last one begins at `at`
-pub last_of_lists : (magazine count at : ℕ) (blocks : List Block) → 0 < count → length blocks ≡ count * magazine → at + magazine ≡ count * magazine → get_or (lists_of magazine count blocks) (length (lists_of magazine count blocks) - 1) [] ≡ drop at blocks
-last_of_lists magazine zero at blocks some e begins = absurd (omega arith)
-last_of_lists magazine (suc count) at blocks some e begins =
-    let is : at ≡ count * magazine = grind arith in
-    let there : length (lists_of magazine count (take (count * magazine) blocks)) ≡ count = length-lists_of magazine count _ in
-    let place : length (lists_of magazine (suc count) blocks) - 1 ≡ length (lists_of magazine count (take (count * magazine) blocks)) = omega (arith, length-lists_of magazine (suc count) blocks, there) in
-    rw (place, is, lists_of_last magazine count blocks e) (get_or-append_seam (lists_of magazine count (take (count * magazine) blocks)) (drop (count * magazine) blocks) [] [])
+pub before_last_list-push : (lists : List (List Block)) (blocks : List Block) → before_last_list (lists ++ blocks ∷ []) ≡ lists
+before_last_list-push lists blocks =
+    let place : length lists ≡ length (lists ++ blocks ∷ []) - 1 = omega (arith, length-append lists (blocks ∷ [])) in
+    take_at lists (blocks ∷ []) (length (lists ++ blocks ∷ []) - 1) place
 
-pub front_of_lists : (magazine count at : ℕ) (blocks : List Block) → 0 < count → length blocks ≡ count * magazine → at + magazine ≡ count * magazine → take (length (lists_of magazine count blocks) - 1) (lists_of magazine count blocks) ≡ lists_of magazine (count - 1) (take at blocks)
-front_of_lists magazine zero at blocks some e begins = absurd (omega arith)
-front_of_lists magazine (suc count) at blocks some e begins =
-    let is : at ≡ count * magazine = grind arith in
-    let there : length (lists_of magazine count (take (count * magazine) blocks)) ≡ count = length-lists_of magazine count _ in
-    let place : length (lists_of magazine (suc count) blocks) - 1 ≡ length (lists_of magazine count (take (count * magazine) blocks)) = omega (arith, length-lists_of magazine (suc count) blocks, there) in
-    let less : suc count - 1 ≡ count = omega arith in
-    rw (place, is, less, lists_of_last magazine count blocks e) (take-append_seam (lists_of magazine count (take (count * magazine) blocks)) (drop (count * magazine) blocks ∷ []))
+-- the lists with the last one cut
+pub drained-push : (lists : List (List Block)) (blocks : List Block) → drained (lists ++ blocks ∷ []) ≡ lists ++ (if nat_lt 1 (length blocks) then below_newest blocks ∷ [] else [])
+drained-push lists blocks =
+    ap (λ xs. xs ++ (if nat_lt 1 (length (last_list (lists ++ blocks ∷ []))) then below_newest (last_list (lists ++ blocks ∷ [])) ∷ [] else [])) (before_last_list-push lists blocks)
+    ∙ ap (λ bs. lists ++ (if nat_lt 1 (length bs) then below_newest bs ∷ [] else [])) (last_list-push lists blocks)
 
--- a depot of at least one list has a magazine's size of blocks
-pub one_list_there : (magazine count len : ℕ) → 0 < count → len ≡ count * magazine → magazine ≤ len
-one_list_there magazine zero len some e = absurd (omega arith)
-one_list_there magazine (suc count) len some e = grind arith
+-- a depot's lists, where the length of the last is cut off
+pub ends_in : (z : Seen) (magazine room at n : ℕ) (lengths before : List ℕ) (blocks : List Block) → let d : Seen = record { magazine = magazine; room = room; lists = lists_of lengths blocks } in d ≡ z → lengths ≡ before ++ n ∷ [] → length blocks ≡ sum lengths → at ≡ length blocks - n →
+    z.lists ≡ lists_of before (take at blocks) ++ drop at blocks ∷ []
+ends_in z magazine room at n lengths before blocks is cut whole begins =
+    let size : sum lengths ≡ sum before + n = ap sum cut ∙ sum-push before n in
+    ap (λ (z : Seen). z.lists) (sym is) ∙ ap (λ ns. lists_of ns blocks) cut ∙ lists_of_last before n at blocks (whole ∙ size) (omega (arith, whole, size, begins))
+
+pub front_length : (at n : ℕ) (lengths before : List ℕ) (blocks : List Block) → lengths ≡ before ++ n ∷ [] → length blocks ≡ sum lengths → at ≡ length blocks - n → at ≡ sum before
+front_length at n lengths before blocks cut whole begins = omega (arith, whole, ap sum cut, sum-push before n, begins)
+
+-- ---- the last block goes
+
+newest-push : (blocks : List Block) (block : Block) → newest (blocks ++ block ∷ []) ≡ block
+newest-push blocks block =
+    let place : length blocks ≡ length (blocks ++ block ∷ []) - 1 = omega (arith, length-append blocks (block ∷ [])) in
+    get_or_push blocks block (record { chunk = 0; index = 0 }) (length (blocks ++ block ∷ []) - 1) place
+
+below_newest-push : (blocks : List Block) (block : Block) → below_newest (blocks ++ block ∷ []) ≡ blocks
+below_newest-push blocks block =
+    let place : length blocks ≡ length (blocks ++ block ∷ []) - 1 = omega (arith, length-append blocks (block ∷ [])) in
+    take_at blocks (block ∷ []) (length (blocks ++ block ∷ []) - 1) place
+
+-- a depot whose last block was taken out
+pub record Drains (z : Seen) (block : Block) (after : List ℕ) (rest : List Block) : Type 0 where
+  pub last : block ≡ newest (last_list z.lists)
+  pub left : lists_of after rest ≡ drained z.lists
+  pub row : row_of z.lists ≡ row_of (lists_of after rest) ++ block ∷ []
+  pub whole : length rest ≡ sum after
+
+pub drains : (z : Seen) (magazine room n at : ℕ) (lengths before after : List ℕ) (blocks rest : List Block) (block : Block) → let d : Seen = record { magazine = magazine; room = room; lists = lists_of lengths blocks } in d ≡ z → lengths ≡ before ++ n ∷ [] → length blocks ≡ sum lengths → 0 < n → at ≡ length blocks - n →
+    blocks ≡ rest ++ block ∷ [] → after ≡ with_rest before (n - 1) → Drains z block after rest
+drains z magazine room n at lengths before after blocks rest block is cut whole some begins popped left =
+    let size : length blocks ≡ length rest + 1 = ap length popped ∙ length-append rest (block ∷ []) in
+    let front : at ≡ sum before = front_length at n lengths before blocks cut whole begins in
+    let within : at ≤ length rest = omega (arith, size, some, begins) in
+    let last : drop at blocks ≡ drop at rest ++ block ∷ [] = ap (drop at) popped ∙ drop-append-le at rest (block ∷ []) within in
+    let others : take at blocks ≡ take at rest = ap (take at) popped ∙ take-append-le at rest (block ∷ []) within in
+    let ends : z.lists ≡ lists_of before (take at rest) ++ (drop at rest ++ block ∷ []) ∷ [] = ends_in z magazine room at n lengths before blocks is cut whole begins ∙ (λ i. lists_of before (others i) ++ last i ∷ []) in
+    let long : length (drop at rest ++ block ∷ []) ≡ n = omega (arith, length-append (drop at rest) (block ∷ []), length-drop at rest, size, whole, ap sum cut, sum-push before n, begins) in
+    let kept = by_rest front within (omega (arith, size, whole, ap sum cut, sum-push before n, front)) in
+    record {
+      last = sym (ap (λ xs. newest (last_list xs)) ends ∙ ap newest (last_list-push (lists_of before (take at rest)) (drop at rest ++ block ∷ [])) ∙ newest-push (drop at rest) block);
+      left = kept.0 ∙ sym (ap drained ends ∙ drained-push (lists_of before (take at rest)) (drop at rest ++ block ∷ []) ∙ (λ i. lists_of before (take at rest) ++ (if nat_lt 1 (long i) then below_newest-push (drop at rest) block i ∷ [] else [])));
+      row = ap (λ (z : Seen). row_of z.lists) (sym is) ∙ row-lists_of lengths blocks whole ∙ popped ∙ ap (λ xs. xs ++ block ∷ []) (sym (row-lists_of after rest kept.1));
+      whole = kept.1;
+    }
+  where
+    by_rest : at ≡ sum before → at ≤ length rest → length rest + 1 ≡ at + n →
+        (lists_of after rest ≡ lists_of before (take at rest) ++ (if nat_lt 1 n then drop at rest ∷ [] else [])) × (length rest ≡ sum after)
+    by_rest front within long =
+        elim (nat_lt 0 (n - 1)) as (λ b. nat_lt 0 (n - 1) ≡ b → after ≡ (if b then before ++ (n - 1) ∷ [] else before) → (lists_of after rest ≡ lists_of before (take at rest) ++ (if nat_lt 1 n then drop at rest ∷ [] else [])) × (length rest ≡ sum after)) [
+          | true ↦ λ e is.
+              let more : nat_lt 1 n ≡ true = grind arith in
+              (ap (λ ns. lists_of ns rest) is ∙ lists_of_last before (n - 1) at rest (omega (arith, front, long)) front ∙ ap (λ b. lists_of before (take at rest) ++ (if b then drop at rest ∷ [] else [])) (sym more), omega (arith, ap sum is, sum-push before (n - 1), front, long))
+          | false ↦ λ e is.
+              let one : n ≡ 1 = grind arith in
+              let none : nat_lt 1 n ≡ false = grind arith in
+              (ap (λ ns. lists_of ns rest) is ∙ ap (lists_of before) (sym (take_all at rest (omega (arith, long, one)))) ∙ sym (append-nil (lists_of before (take at rest))) ∙ ap (λ b. lists_of before (take at rest) ++ (if b then drop at rest ∷ [] else [])) (sym none), omega (arith, ap sum is, front, long, one))
+        ] refl left

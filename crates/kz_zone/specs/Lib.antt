@@ -1,5 +1,15 @@
 pub mod Pair
 pub mod Depot
 pub mod Zone
-pub mod Idle
+pub mod Chunks
+pub mod Out
+pub mod Picks
+pub mod Written
+pub mod Transit
+pub mod Slots
+pub mod Growth
+pub mod Growing
+pub mod Unmapping
+pub mod Fields
+pub mod Played
 pub mod Room

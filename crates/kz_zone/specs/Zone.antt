@@ -1,19 +1,26 @@
 -- A zone as contracts see it, and the shared state that it stands for.
-use Rattle.std.specs.Prelude.{◌≡◌, ℕ, ◌+◌, ◌*◌, ◌≤◌, Bool, true, false, if◌then◌else◌, List, [], ◌∷◌, replicate, Option, IsTrue}
+use Rattle.std.specs.Prelude.{◌≡◌, ℕ, ◌+◌, ◌<◌, ◌≤◌, nat_lt, ◌==◌, if◌then◌else◌, List, length, Option, is_some, All}
 use Rattle.rand_pcg.specs.Lcg.{Lcg}
 use Rattle.kz_model.specs.declared.step.Block.{Block}
 use Rattle.kz_model.specs.declared.record.ZoneParams.{ZoneParams}
 use Rattle.kz_model.specs.Words.{words_after}
-use Rattle.kz_model.specs.Zone.{Chunk, Gift, Shared}
+use Rattle.kz_model.specs.Zone.{Chunk, Gift, Shared, chunk_at}
+use Rattle.kz_model.specs.Pick.{unmapped_place}
 use Rattle.kz_model.specs.Rules.{must_grow}
-use Rattle.kz_model.specs.Whole.{Rises}
-use Rattle.kz_zone.specs.Depot.{Depot}
+use Rattle.kz_model.specs.Whole.{IsChunk}
+use Rattle.kz_queue.specs.declared.place.Place.{Place}
+use Rattle.kz_queue.specs.declared.place.Place.TheVariants.{Part, Whole, Out, Gone}
+use Rattle.kz_supply.specs.declared.pages.Want.{Want}
+use Rattle.kz_supply.specs.declared.pages.Want.TheVariants as want
 use Rattle.kz_zone.specs.Room.{AreFit}
 
--- a zone by its parameters, chunks, depot and transit, and the words that it has not drawn yet
+-- a zone by its parameters, for how many chunks and gifts it has room, its chunks with their first pages, depot and transit, and the words that it has not drawn yet
 pub record Zone : Type 0 where
   pub params : ZoneParams
+  pub most_chunks : ℕ
+  pub most_gifts : ℕ
   pub chunks : List Chunk
+  pub bases : List ℕ
   pub depot : List (List Block)
   pub transit : List Gift
   pub words : Option Lcg
@@ -29,20 +36,39 @@ pub record Shows (z : Zone) (s : Shared) : Type 0 where
 abbrev pub shared_of : Zone → Shared
 shared_of z = record { chunks = z.chunks; depot = z.depot; transit = z.transit; drawn = 0 }
 
--- the zone has to grow only where it has no chunk yet
-abbrev pub GrowsAtMostOnce : Zone → Type 0
-GrowsAtMostOnce z = IsTrue (must_grow (shared_of z)) → z.chunks ≡ []
+-- what a call leaves as it is
+pub record IsSame (old new : Zone) : Type 0 where
+  pub params : new.params ≡ old.params
+  pub most_chunks : new.most_chunks ≡ old.most_chunks
+  pub most_gifts : new.most_gifts ≡ old.most_gifts
 
--- the one chunk, once the zone has grown; no byte of it was written yet
-abbrev pub chunks_of : ZoneParams → Bool → List ℕ → List Chunk
-chunks_of p grown idle =
-    if grown then record { mapped = true; idle = idle; bytes = replicate (p.count * p.element) 0 } ∷ [] else []
+-- what a call that neither grows nor trims leaves too
+pub record IsSettled (old new : Zone) : Type 0 where
+  pub same : IsSame old new
+  pub count : length new.chunks ≡ length old.chunks
+  pub bases : new.bases ≡ old.bases
 
--- what the fields of a zone keep
-pub record IsZone (p : ZoneParams) (grown : Bool) (idle : List ℕ) (capacity : ℕ) (depot : Depot) : Type 0 where
-  pub fit : AreFit p
-  pub magazine : depot.magazine ≡ p.magazine
-  pub room : depot.room ≡ p.depot
-  pub rising : Rises 0 p.count idle
-  pub enough : p.count ≤ capacity
-  pub not_yet : grown ≡ false → idle ≡ []
+-- where a chunk stands
+abbrev pub place_of : ℕ → Chunk → Place
+place_of count chunk =
+    if chunk.mapped then (if length chunk.idle == count then Whole else if nat_lt 0 (length chunk.idle) then Part else Out) else Gone
+
+-- the grant that filling an empty stack will ask for
+abbrev pub want_of : Zone → Want
+want_of z =
+    if must_grow (shared_of z) then (if is_some (unmapped_place z.chunks) then want.Frames else want.Chunk) else want.Nothing
+
+-- a block that the zone has
+pub record IsBlock (z : Zone) (block : Block) : Type 0 where
+  pub chunk : block.chunk < length z.chunks
+  pub index : block.index < z.params.count
+
+-- What each zone keeps.
+pub record IsKept (z : Zone) : Type 0 where
+  pub fit : AreFit z.params
+  pub chunks : (ordinal : ℕ) → IsChunk z.params (chunk_at z.chunks ordinal)
+  pub few : length z.chunks ≤ z.most_chunks
+  pub bases : length z.bases ≡ length z.chunks
+  pub depot : length z.depot ≤ z.params.depot
+  pub lists : All (λ blocks. length blocks ≡ z.params.magazine) z.depot
+  pub gifts : length z.transit ≤ z.most_gifts

@@ -1,11 +1,17 @@
-//! One zone: its idle elements, its depot, and what a CPU's stack gets and gives.
+//! One zone: its chunks, its depot, its transit, and what a CPU's stack gets and gives.
 #![tactic(auto)]
 
+mod chunks;
 mod depot;
+mod grow;
 mod idle;
 mod pair;
+mod pick;
+mod slots;
 #[cfg(test)]
 mod tests;
+mod transit;
+mod trim;
 mod within;
 mod zone;
 

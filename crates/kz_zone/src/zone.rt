@@ -1,74 +1,105 @@
-//! A zone's shared part: its chunk, its depot and its words.
-ghost use Rattle.std.specs.Prelude.{◌≡◌, ◌+◌, ◌*◌, [], length, take, drop, IfOk};
+//! A zone's shared part: its chunks, its depot, its transit and its words.
+ghost use Rattle.std.specs.Prelude.{◌≡◌, ◌+◌, ◌*◌, ◌<◌, ◌≤◌, ◌++◌, [], ◌∷◌, true, false, length, take, drop, map, replicate, Some, is_some, slice_index, IfOk, OnOk, OnErr, IfSome, IfNone};
+ghost use Rattle.std.specs.List.{remove};
+ghost use Rattle.std.specs.Option.{unwrap_or};
 ghost use Rattle.kz_model.specs.Words.{opened};
-ghost use Rattle.kz_model.specs.Zone.{Shared};
-ghost use Rattle.kz_model.specs.Rules.{ready, spilled};
+ghost use Rattle.kz_model.specs.Zone.{Shared, Gift, chunk_at, nothing_own};
+ghost use Rattle.kz_model.specs.Rules.{ready, spilled, all_idle, trimmed, before_unmapping, count_whole, gift_place, gift_at, with_bytes, bytes_at};
 ghost use Rattle.kz_model.specs.Whole.{AreAway};
-ghost use Rattle.kz_zone.specs.Zone.{Shows, GrowsAtMostOnce, shared_of};
+ghost use Rattle.kz_zone.specs.Zone.{Shows, IsSame, IsSettled, IsBlock, IsKept, shared_of, place_of, want_of};
+ghost use Rattle.kz_zone.specs.Growth.{CanAnswer, Grows, trim_exchanges};
 ghost use Rattle.kz_zone.specs.Room.{IsFit};
+ghost use Rattle.std.specs.List.{count_by};
 
-use crate::idle::{insert_all, map_chunk, pick_onto};
+use crate::chunks::Chunks;
+use crate::grow::ready;
+use crate::idle::{empty_depot, empty_stack, put_all};
+use crate::pick::pick_onto;
+use crate::transit::Transit;
+use crate::trim::unmap_whole;
 use crate::{Depot, Pair};
-use kz_model::{Room, Words, ZoneParams};
+use kz_model::{Block, Piece, Room, Words};
+use kz_queue::Shelf;
+use kz_supply::{Denied, Pages, Want};
 use std::alloc::{AllocError, Global};
 use std::marker::Model;
 
-/// What no one CPU has of a zone, while the zone has at most one chunk.
+/// What no one CPU has of a zone.
 ///
 /// It takes all its memory when it is made.
 #[derive(Drop)]
 pub struct Zone {
-    params: ZoneParams,
-    grown: bool,
-    idle: Vec<u32>,
+    chunks: Chunks,
     depot: Depot,
+    transit: Transit,
     words: Words,
 }
 
 impl Model for Zone {
-    ghost use Rattle.std.specs.Prelude.{[], vec_capacity};
-    ghost use Rattle.kz_zone.specs.Zone.{Zone as Seen, chunks_of, IsZone};
+    ghost use Rattle.kz_zone.specs.Zone.{Zone as Seen};
+    ghost use Rattle.kz_zone.specs.Fields.{IsDepotOf};
 
     ghost Value = { Seen };
 
-    ghost view = { λ z. record { params = z.params; chunks = chunks_of z.params z.grown z.idle.items; depot = z.depot.lists; transit = []; words = z.words } };
+    ghost view = { λ z. record { params = z.chunks.params; most_chunks = z.chunks.most; most_gifts = z.transit.room; chunks = z.chunks.chunks; bases = z.chunks.bases; depot = z.depot.lists; transit = z.transit.gifts; words = z.words } };
 
-    ghost invariant = { λ z. IsZone z.params z.grown z.idle.items (vec_capacity z.idle) z.depot };
+    ghost invariant = { λ z. IsDepotOf z.chunks.params z.depot };
 }
 
 impl Zone {
     /// A zone with no chunk and an empty depot, whose picks draw from the zone's own stream of the seed.
     pub fn new(alloc: Global, room: &Room) -> Result<Zone, AllocError>
         requires { IsFit room.now }
-        ensures { IfOk result (λ zone. zone ≡ record { params = room.now.params; chunks = []; depot = []; transit = []; words = opened room.now.params.seed (2 + room.now.params.zone) }) }
+        ensures { IfOk result (λ zone. zone ≡ record {
+          params = room.now.params;
+          most_chunks = room.now.chunks;
+          most_gifts = room.now.transit;
+          chunks = [];
+          bases = [];
+          depot = [];
+          transit = [];
+          words = opened room.now.params.seed (2 + room.now.params.zone);
+        }) }
     {
         let params = room.params;
         Ok(Zone {
-            grown: false,
-            idle: Vec::with_capacity(alloc, params.count as usize)?,
+            chunks: Chunks::new(alloc, params, room.chunks)?,
             depot: Depot::new(alloc, params.magazine, params.depot, params.cpus)?,
+            transit: Transit::new(alloc, room.transit)?,
             words: Words::new(params.seed, 2 + u64::from(params.zone)),
-            params,
         })
     }
 
     /// Fills an empty stack: with the list last put into the depot, else by picks, for which the zone grows where no element is idle.
-    pub fn refill(&mut self, into: &mut Pair)
+    pub fn refill<P: Pages>(&mut self, into: &mut Pair, pages: &mut P) -> Result<(), Denied>
         requires empty { into.old.blocks ≡ [] }
         requires same_magazine { into.old.magazine ≡ self.old.params.magazine }
-        requires once { GrowsAtMostOnce self.old }
-        ensures shows { (s : Shared) → Shows self.old s → Shows self.new (ready self.old.params s []).1 }
-        ensures stack { (s : Shared) → Shows self.old s → into.new ≡ record into.old { blocks = (ready self.old.params s []).0 } }
-        ensures same { self.new.params ≡ self.old.params }
+        requires same_zone { P.params pages.old ≡ self.old.params }
+        requires answers { CanAnswer (want_of self.old) (P.can_chunk pages.old) (P.can_frames pages.old) }
+        requires few { P.grants pages.old + length self.old.chunks ≤ self.old.most_chunks }
+
+        // What the stack gets, and what is left.
+        ensures shows { OnOk result ((s : Shared) → Shows self.old s → Shows self.new (ready self.old.params s []).1) }
+        ensures stack { OnOk result ((s : Shared) → Shows self.old s → into.new ≡ record into.old { blocks = (ready self.old.params s []).0 }) }
+        ensures some { OnOk result (0 < length into.new.blocks) }
+        ensures unchanged { OnErr result ((self.new ≡ self.old) × (into.new ≡ into.old)) }
+        ensures same { IsSame self.old self.new }
+
+        // What was asked.
+        ensures asked { Grows self.old self.new result (P.exchanges pages.old) (P.exchanges pages.new) }
+        ensures grants { P.grants pages.new + length self.new.chunks ≡ P.grants pages.old + length self.old.chunks }
+        ensures params { P.params pages.new ≡ P.params pages.old }
+        ensures base { P.base pages.new ≡ P.base pages.old }
     {
+        self.chunks.keeps();
         if self.depot.get(into) {
-            return;
+            return Ok(());
         }
-        let count = self.params.count;
-        let magazine = self.params.magazine;
-        map_chunk(self.grown, &mut self.idle, count);
-        self.grown = true;
-        pick_onto(count, magazine, &mut self.idle, &mut self.words, into);
+        ready(&mut self.chunks, pages)?;
+        self.chunks.keeps();
+        let magazine = self.chunks.params().magazine;
+        pick_onto(&mut self.chunks, &mut self.words, magazine, into);
+        Ok(())
     }
 
     /// Takes the oldest blocks of a full stack, a magazine's size of them: into the depot where it has room, else they become idle.
@@ -78,19 +109,140 @@ impl Zone {
         requires away { AreAway self.old.params (shared_of self.old) from.old.blocks }
         ensures shows { (s : Shared) → Shows self.old s → Shows self.new (spilled self.old.params (take from.old.magazine from.old.blocks) s) }
         ensures left { from.new ≡ record from.old { blocks = drop from.old.magazine from.old.blocks } }
-        ensures same { self.new.params ≡ self.old.params }
+        ensures same { IsSettled self.old self.new }
     {
         if self.depot.put(from) {
             return;
         }
-        insert_all(&mut self.idle, from.front(), self.params.count);
+        put_all(&mut self.chunks, from.front());
         from.drop_front();
+    }
+
+    /// What filling an empty stack will ask for.
+    pub fn want(&self) -> Want
+        ensures { result ≡ want_of self.now }
+    {
+        if !self.depot.is_empty() || self.chunks.has_idle() {
+            Want::Nothing
+        } else if self.chunks.unmapped().is_some() {
+            Want::Frames
+        } else {
+            Want::Chunk
+        }
+    }
+
+    /// Makes all blocks of a stack idle.
+    pub fn flush(&mut self, from: &mut Pair)
+        requires same_magazine { from.old.magazine ≡ self.old.params.magazine }
+        requires away { AreAway self.old.params (shared_of self.old) from.old.blocks }
+        ensures shows { (s : Shared) → Shows self.old s → Shows self.new (record s { chunks = all_idle from.old.blocks s.chunks }) }
+        ensures left { from.new ≡ record from.old { blocks = [] } }
+        ensures same { IsSettled self.old self.new }
+    {
+        empty_stack(&mut self.chunks, from);
+    }
+
+    /// Makes the depot's blocks idle, and unmaps each chunk that is then wholly idle. It gives the number of pages that went back.
+    pub fn trim<P: Pages>(&mut self, pages: &mut P) -> u32
+        requires same_zone { P.params pages.old ≡ self.old.params }
+        requires room { count_by (λ chunk. chunk.mapped) self.old.chunks ≤ P.backs pages.old }
+        requires away { AreAway self.old.params (shared_of self.old) [] }
+        ensures pages { result ≡ self.old.params.pages * count_whole self.old.params (before_unmapping (shared_of self.old)) }
+        ensures shows { (s : Shared) → Shows self.old s → Shows self.new (trimmed self.old.params s nothing_own).shared }
+        ensures same { IsSettled self.old self.new }
+        ensures asked { P.exchanges pages.new ≡ P.exchanges pages.old ++ trim_exchanges self.old.params (shared_of self.old) }
+        ensures grants { P.grants pages.new ≡ P.grants pages.old }
+        ensures params { P.params pages.new ≡ P.params pages.old }
+        ensures base { P.base pages.new ≡ P.base pages.old }
+    {
+        empty_depot(&mut self.chunks, &mut self.depot);
+        self.chunks.keeps();
+        let unmapped = unmap_whole(&mut self.chunks, pages);
+        self.chunks.params().pages * unmapped
+    }
+
+    /// Puts a gift for a CPU and one of its names last into transit.
+    pub fn give(&mut self, to: u32, name: u32, block: Block)
+        requires { length self.old.transit < self.old.most_gifts }
+        ensures shows { (s : Shared) → Shows self.old s → Shows self.new (record s { transit = s.transit ++ record { to = to; name = name; block = block } ∷ [] }) }
+        ensures same { IsSettled self.old self.new }
+    {
+        self.transit.give(to, name, block);
+    }
+
+    /// Takes the oldest gift for a CPU and one of its names out of transit.
+    pub fn take(&mut self, to: u32, name: u32) -> Option<Block>
+        ensures some { is_some result ≡ is_some (gift_place to name self.old.transit) }
+        ensures block { IfSome result (λ block. block ≡ (gift_at self.old.transit (unwrap_or (gift_place to name self.old.transit) 0)).block) }
+        ensures shows { IfSome result (λ block. (s : Shared) → Shows self.old s → Shows self.new (record s { transit = remove s.transit (unwrap_or (gift_place to name s.transit) 0) })) }
+        ensures none { IfNone result (self.new ≡ self.old) }
+        ensures same { IsSettled self.old self.new }
+    {
+        self.transit.take(to, name)
+    }
+
+    /// Reads some bytes of a block, unless its chunk is unmapped.
+    pub fn read(&self, block: Block, off: u32, len: u32) -> Option<Piece>
+        requires there { IsBlock self.now block }
+        requires inside { off + len ≤ self.now.params.element }
+        requires few { len ≤ 32 }
+        ensures some { is_some result ≡ (chunk_at self.now.chunks block.chunk).mapped }
+        ensures bytes { IfSome result (λ bytes. bytes ≡ bytes_at self.now.params block off len (shared_of self.now)) }
+    {
+        self.chunks.read(block, off, len)
+    }
+
+    /// Writes some bytes of a block, unless its chunk is unmapped.
+    pub fn write(&mut self, block: Block, off: u32, bytes: &Piece) -> bool
+        requires there { IsBlock self.old block }
+        requires inside { off + length bytes.now ≤ self.old.params.element }
+        ensures mapped { result ≡ (chunk_at self.old.chunks block.chunk).mapped }
+        ensures shows { result ≡ true → (s : Shared) → Shows self.old s → Shows self.new (with_bytes self.old.params block off bytes.now s) }
+        ensures unchanged { result ≡ false → self.new ≡ self.old }
+        ensures same { IsSettled self.old self.new }
+    {
+        self.chunks.write(block, off, bytes)
+    }
+
+    /// Sets all bytes of a block to 0.
+    pub fn zero(&mut self, block: Block)
+        requires there { IsBlock self.old block }
+        requires mapped { (chunk_at self.old.chunks block.chunk).mapped ≡ true }
+        ensures shows { (s : Shared) → Shows self.old s → Shows self.new (with_bytes self.old.params block 0 (replicate self.old.params.element 0) s) }
+        ensures same { IsSettled self.old self.new }
+    {
+        self.chunks.zero(block);
     }
 
     /// How many chunks the zone has.
     pub fn chunks(&self) -> u32
-        ensures { result ≡ length self.now.chunks }
+        ensures chunks { result ≡ length self.now.chunks }
+        ensures kept { IsKept self.now }
     {
-        u32::from(self.grown)
+        self.chunks.keeps();
+        self.transit.keeps();
+        self.chunks.len()
+    }
+
+    /// The first page of a chunk in the zone's submap.
+    pub fn base(&self, chunk: u32) -> u32
+        requires { chunk < length self.now.chunks }
+        ensures { result ≡ slice_index self.now.bases chunk }
+    {
+        self.chunks.base(chunk)
+    }
+
+    pub fn mapped(&self, chunk: u32) -> bool
+        requires { chunk < length self.now.chunks }
+        ensures { result ≡ (chunk_at self.now.chunks chunk).mapped }
+    {
+        self.chunks.mapped(chunk)
+    }
+
+    /// Where each chunk stands.
+    pub fn shelf(&self) -> &Shelf
+        ensures { result.now.places ≡ map (place_of self.now.params.count) self.now.chunks }
+    {
+        self.chunks.shelf()
     }
 }

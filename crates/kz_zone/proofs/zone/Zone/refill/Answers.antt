@@ -1,61 +1,49 @@
-use Rattle.std.proofs.Common.{◌≡◌, ℕ, ◌<◌, Bool, true, if◌then◌else◌, List, [], ◌++◌, Option, ap, sym, ◌∙◌, subst, arith}
-use Rattle.std.specs.List.{range_with_len}
-use Rattle.rand_pcg.specs.Lcg.{Lcg}
+use Rattle.std.proofs.Common.{◌≡◌, false, nat_lt, List, [], ◌∷◌, length, refl, ap, sym, ◌∙◌, arith}
 use Rattle.kz_model.specs.declared.step.Block.{Block}
 use Rattle.kz_model.specs.declared.record.ZoneParams.{ZoneParams}
-use Rattle.kz_model.specs.Zone.{Shared}
-use Rattle.kz_zone.specs.Zone.{Zone as Seen, Shows, GrowsAtMostOnce}
-use Rattle.kz_model.specs.Whole.{Rises}
-use Rattle.kz_zone.specs.Idle.{idle_picks, blocks_of}
 use Rattle.kz_zone.specs.Depot.{Depot}
-use Rattle.kz_zone.specs.Pair.{Pair}
-use Rattle.kz_zone.proofs.Rising.{rises-picks}
-use Rattle.kz_zone.proofs.OneChunk.{seen, Refills, zone_refill, no_lists, rises-now}
+use Rattle.kz_zone.specs.Zone.{Zone}
+use Rattle.kz_zone.specs.Picks.{picked}
+use Rattle.kz_zone.proofs.Refilling.{refills, stacked, size_picked, some_filled}
 use Rattle.kz_zone.proofs.zone.Zone.refill.Goals as goal
 
--- What the fields' changes do to a zone whose depot has no list.
-refills : (z : Seen) (p : ZoneParams) (grown : Bool) (idle now left : List ℕ) (lists after : List (List Block)) (words drawn : Option Lcg) (s : Shared) → seen p grown idle lists words ≡ z → lists ≡ [] → after ≡ lists → 0 < p.count → Rises 0 p.count idle →
-    now ≡ (if grown then idle else range_with_len 0 p.count) → left ≡ (idle_picks p.count p.magazine now words).idle → drawn ≡ (idle_picks p.count p.magazine now words).words →
-    GrowsAtMostOnce z → Shows z s → Refills z s (blocks_of (idle_picks p.count p.magazine now words).elements) (seen p true left after drawn)
-refills z p grown idle now left lists after words drawn s is none same some rising mapped picked taken once h =
-    let e : z ≡ seen p grown idle [] words = sym is ∙ ap (λ (ls : List (List Block)). seen p grown idle ls words) none in
-    let r = idle_picks p.count p.magazine now words in
-    let made = zone_refill p grown idle now words s some rising mapped (subst GrowsAtMostOnce e once) (subst (λ (y : Seen). Shows y s) e h) in
-    let end : seen p true r.idle [] r.words ≡ seen p true left after drawn = λ i. seen p true (sym picked i) (sym (same ∙ none) i) (sym taken i) in
-    let F : Seen → Type 0 = λ y. Refills y s (blocks_of r.elements) (seen p true left after drawn) in
-    let G : Seen → Type 0 = λ y. Refills (seen p grown idle [] words) s (blocks_of r.elements) y in
-    subst F (sym e) (subst G end made)
-
--- the stack after the picks
-stacked : (mid old : Pair) (made given : List Block) → mid ≡ old → old.blocks ≡ [] → given ≡ made → record mid { blocks = mid.blocks ++ made } ≡ record old { blocks = given }
-stacked mid old made given same empty is = λ i. record { magazine = (same i).magazine; blocks = (ap (λ (p : Pair). p.blocks ++ made) same ∙ ap (λ (bs : List Block). bs ++ made) empty ∙ sym is) i }
-
-pub invariant_of-self-2 : goal.invariant_of-self-2
-invariant_of-self-2 c =
-    let i = c.self.inside in
-    let h = c.self.invariant in
-    record {
-      fit = h.fit;
-      magazine = ap (λ (d : Depot). d.magazine) (c.get.ensures.unchanged c.if-get.false).0 ∙ h.magazine;
-      room = ap (λ (d : Depot). d.room) (c.get.ensures.unchanged c.if-get.false).0 ∙ h.room;
-      rising = rw c.pick_onto.ensures.idle (rises-picks i.params.count i.params.magazine 0 i.params.count c.map_chunk.new.idle.items i.words (rises-now i.params i.grown i.idle.items c.map_chunk.new.idle.items h.rising c.map_chunk.ensures.items));
-      enough = omega (arith, h.enough, c.map_chunk.ensures.capacity, c.pick_onto.ensures.capacity);
-      not_yet = λ e. absurd (cc e);
-    }
+-- where the depot gives no list it has none
+no_lists : (lists : List (List Block)) → false ≡ nat_lt 0 (length lists) → lists ≡ []
+no_lists [] e = refl
+no_lists (blocks ∷ lists) e = absurd (grind arith)
 
 pub returns-clause-shows : goal.returns-clause-shows
-returns-clause-shows c = λ s h.
+returns-clause-shows g c = λ s h.
     let i = c.self.inside in
     let none = no_lists i.depot.lists (sym c.if-get.false ∙ c.get.ensures.some) in
     let same = ap (λ (d : Depot). d.lists) (c.get.ensures.unchanged c.if-get.false).0 in
-    (refills c.args.self.now i.params i.grown i.idle.items c.map_chunk.new.idle.items c.pick_onto.new.idle.items i.depot.lists c.get.new.self.lists i.words c.pick_onto.new.words s
-    c.self.view_is none same c.self.invariant.fit.shape.some_count c.self.invariant.rising c.map_chunk.ensures.items c.pick_onto.ensures.idle c.pick_onto.ensures.words c.requires.once h).shows
+    let e = c.in_ok-ready.ensures in
+    let magazine = ap (λ (p : ZoneParams). p.magazine) c.params-magazine.ensures in
+    (refills c.args.self.now i.chunks c.ready.new.chunks c.pick_onto.new.chunks c.params-magazine.result.magazine i.transit i.depot.lists c.get.new.self.lists i.words c.pick_onto.new.words s
+    c.self.view_is none same e.stays.params e.ready magazine c.pick_onto.ensures.chunks c.pick_onto.ensures.words h).shows
 
 pub returns-clause-stack : goal.returns-clause-stack
-returns-clause-stack c = λ s h.
+returns-clause-stack g c = λ s h.
     let i = c.self.inside in
+    let now = c.ready.new.chunks in
+    let n = c.params-magazine.result.magazine in
     let none = no_lists i.depot.lists (sym c.if-get.false ∙ c.get.ensures.some) in
-    let same = ap (λ (d : Depot). d.lists) (c.get.ensures.unchanged c.if-get.false).0 in
-    let made = refills c.args.self.now i.params i.grown i.idle.items c.map_chunk.new.idle.items c.pick_onto.new.idle.items i.depot.lists c.get.new.self.lists i.words c.pick_onto.new.words s
-    c.self.view_is none same c.self.invariant.fit.shape.some_count c.self.invariant.rising c.map_chunk.ensures.items c.pick_onto.ensures.idle c.pick_onto.ensures.words c.requires.once h in
-    c.pick_onto.ensures.blocks ∙ stacked c.get.new.into c.args.into.now _ _ (c.get.ensures.unchanged c.if-get.false).1 c.requires.empty made.stack
+    let unchanged = c.get.ensures.unchanged c.if-get.false in
+    let same = ap (λ (d : Depot). d.lists) unchanged.0 in
+    let e = c.in_ok-ready.ensures in
+    let magazine = ap (λ (p : ZoneParams). p.magazine) c.params-magazine.ensures in
+    let made = refills c.args.self.now i.chunks now c.pick_onto.new.chunks n i.transit i.depot.lists c.get.new.self.lists i.words c.pick_onto.new.words s
+    c.self.view_is none same e.stays.params e.ready magazine c.pick_onto.ensures.chunks c.pick_onto.ensures.words h in
+    c.pick_onto.ensures.blocks ∙ stacked c.get.new.into c.args.into.now (picked now.params.count n now.chunks i.words).blocks _ unchanged.1 c.requires.empty made.stack
+
+pub returns-clause-some : goal.returns-clause-some
+returns-clause-some g c =
+    let i = c.self.inside in
+    let e = c.in_ok-ready.ensures in
+    let magazine = ap (λ (p : ZoneParams). p.magazine) c.params-magazine.ensures in
+    some_filled i.chunks c.ready.new.chunks c.params-magazine.result.magazine i.words c.get.new.into c.pick_onto.new.into c.keeps-2.ensures.fit e.stays.params e.ready c.keeps-2.ensures.kept magazine c.pick_onto.ensures.blocks
+
+pub returns-clause-grants : goal.returns-clause-grants
+returns-clause-grants g c =
+    let size = size_picked c.ready.new.chunks c.pick_onto.new.chunks c.params-magazine.result.magazine c.self.inside.words c.pick_onto.ensures.chunks in
+    omega (arith, size, c.in_ok-ready.ensures.grants, ap (λ (z : Zone). length z.chunks) c.self.view_is)
