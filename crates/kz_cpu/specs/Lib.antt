@@ -1,0 +1,5 @@
+pub mod Cpu
+pub mod Caught
+pub mod Local
+pub mod Cache
+pub mod Playing

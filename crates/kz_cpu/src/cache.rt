@@ -1,0 +1,145 @@
+//! What a CPU keeps of one zone.
+ghost use Rattle.std.specs.Prelude.{◌≡◌, ◌+◌, ◌*◌, ◌<◌, ◌≤◌, ◌++◌, [], ◌∷◌, true, false, length, nat_lt, take, drop, Some, is_some, IfOk, IfSome, IfNone, is_none, vec_len, vec_capacity};
+ghost use Rattle.kz_model.specs.Rules.{newest, below_newest, block_of};
+ghost use Rattle.kz_model.specs.Zone.{Own};
+ghost use Rattle.kz_zone.specs.Room.{IsFit};
+ghost use Rattle.kz_cpu.specs.Cpu.{opened_cache};
+ghost use Rattle.kz_cpu.specs.Local.{Brings, IsAnswer};
+
+use crate::refusals::refused;
+use kz_book::Book;
+use kz_model::{Bound, Reply, Room, Step, ZoneParams};
+use kz_zone::Pair;
+use std::alloc::{AllocError, Global};
+use std::marker::Model;
+
+/// A CPU's stack of a zone, its steps there since its last visit, and the chunks that it knows.
+///
+/// It takes all its memory when it is made.
+#[derive(Drop)]
+pub struct Cache {
+    pub params: ZoneParams,
+    pub most_steps: u32,
+    pub most_chunks: u32,
+    pub pair: Pair,
+    pub recent: Vec<Step>,
+    pub bases: Vec<u32>,
+}
+
+impl Model for Cache {
+    ghost use Rattle.std.specs.Prelude.{vec_len, vec_capacity};
+    ghost use Rattle.kz_cpu.specs.Cpu.{Cache as Seen};
+    ghost use Rattle.kz_cpu.specs.Cache.{IsRoomy};
+
+    ghost Value = { Seen };
+
+    ghost view = { λ k. record { params = k.params; most_steps = k.most_steps; most_chunks = k.most_chunks; pair = k.pair; recent = k.recent.items; bases = k.bases.items } };
+
+    ghost invariant = { λ k. IsRoomy k.pair.magazine k.params.magazine k.most_steps k.most_chunks (vec_capacity k.recent) (vec_len k.bases) (vec_capacity k.bases) };
+}
+
+/// Takes the newest block of a stack for a name, if there is one.
+fn allocate(pair: &mut Pair, bound: &mut Option<Bound>) -> Option<Reply>
+    ensures some { is_some result ≡ nat_lt 0 (length pair.old.blocks) }
+    ensures reply { IfSome result (λ reply. reply ≡ Reply.Block (newest pair.old.blocks)) }
+    ensures stack { IfSome result (λ reply. pair.new ≡ record pair.old { blocks = below_newest pair.old.blocks }) }
+    ensures bound { IfSome result (λ reply. bound.new ≡ Some (record { block = newest pair.old.blocks; held = true })) }
+    ensures none { IfNone result ((pair.new ≡ pair.old) × (bound.new ≡ bound.old)) }
+{
+    let block = pair.pop()?;
+    *bound = Some(Bound { block, held: true });
+    Some(Reply::Block { block })
+}
+
+/// Puts the block of a held name onto a stack, if there is room.
+fn free(pair: &mut Pair, magazine: u32, bound: &mut Option<Bound>) -> Option<Reply>
+    requires there { is_none bound.old ≡ false }
+    requires same_magazine { pair.old.magazine ≡ magazine }
+    requires few { magazine ≤ 32 }
+    ensures some { is_some result ≡ nat_lt (length pair.old.blocks) (2 * magazine) }
+    ensures reply { IfSome result (λ reply. reply ≡ Reply.Done) }
+    ensures stack { IfSome result (λ reply. pair.new ≡ record pair.old { blocks = pair.old.blocks ++ block_of bound.old ∷ [] }) }
+    ensures bound { IfSome result (λ reply. bound.new ≡ Some (record { block = block_of bound.old; held = false })) }
+    ensures none { IfNone result ((pair.new ≡ pair.old) × (bound.new ≡ bound.old)) }
+{
+    if pair.len() >= 2 * magazine {
+        return None;
+    }
+    match *bound {
+        Some(Bound { block, .. }) => {
+            let _ = pair.push(block);
+            *bound = Some(Bound { block, held: false });
+            Some(Reply::Done)
+        }
+        None => unreachable!(),
+    }
+}
+
+/// The CPU's own answer to a step, unless the step needs a visit.
+fn answer(
+    params: &ZoneParams,
+    pair: &mut Pair,
+    bound: &mut Option<Bound>,
+    step: &Step,
+) -> Option<Reply>
+    requires same_magazine { pair.old.magazine ≡ params.now.magazine }
+    requires few { params.now.magazine ≤ 32 }
+    ensures answers { (own : Own) → Brings own step.now pair.old.blocks bound.old → IsAnswer params.now own step.now result pair.new.blocks bound.new }
+    ensures none { IfNone result ((pair.new ≡ pair.old) × (bound.new ≡ bound.old)) }
+    ensures magazine { pair.new.magazine ≡ pair.old.magazine }
+{
+    if let Some(reply) = refused(params, *bound, step) {
+        return Some(reply);
+    }
+    match step {
+        Step::Alloc { .. } => allocate(pair, bound),
+        Step::Free { .. } => free(pair, params.magazine, bound),
+        _ => None,
+    }
+}
+
+/// Learns the first pages of the chunks that are not known yet, as far as there is room.
+pub fn learn(bases: &mut Vec<u32>, most_chunks: u32, book: &Book)
+    requires few { vec_len bases.old ≤ most_chunks }
+    requires room { most_chunks ≤ vec_capacity bases.old }
+    ensures bases { bases.new.items ≡ bases.old.items ++ drop (length bases.old.items) (take most_chunks book.now.zone.bases) }
+    ensures few { vec_len bases.new ≤ most_chunks }
+    ensures capacity { most_chunks ≤ vec_capacity bases.new }
+{
+    let known = bases.len() as u32;
+    for chunk in known..book.chunks().min(most_chunks) {
+        bases.push_reserved(book.base(chunk));
+    }
+}
+
+impl Cache {
+    /// What a CPU has of a zone that no CPU has visited.
+    pub fn new(alloc: Global, cpu: u32, room: &Room) -> Result<Cache, AllocError>
+        requires fit { IsFit room.now }
+        requires cpu { cpu < room.now.params.cpus }
+        ensures { IfOk result (λ cache. cache ≡ opened_cache cpu room.now) }
+    {
+        let most_steps = room.steps.as_slice()[cpu as usize];
+        Ok(Cache {
+            params: room.params,
+            most_steps,
+            most_chunks: room.chunks,
+            pair: Pair::new(alloc, room.params.magazine)?,
+            recent: Vec::with_capacity(alloc, most_steps as usize)?,
+            bases: Vec::with_capacity(alloc, room.chunks as usize)?,
+        })
+    }
+
+    /// Does a step by itself, unless it needs a visit.
+    pub fn local(&mut self, bound: &mut Option<Bound>, step: &Step) -> Option<Reply>
+        requires { length self.old.recent < self.old.most_steps }
+        ensures answers { (own : Own) → Brings own step.now self.old.pair.blocks bound.old → IsAnswer self.old.params own step.now result self.new.pair.blocks bound.new }
+        ensures none { IfNone result ((self.new ≡ self.old) × (bound.new ≡ bound.old)) }
+        ensures magazine { self.new.pair.magazine ≡ self.old.pair.magazine }
+        ensures kept { IfSome result (λ reply. self.new ≡ record self.old { pair = self.new.pair; recent = self.old.recent ++ step.now ∷ [] }) }
+    {
+        let reply = answer(&self.params, &mut self.pair, bound, step)?;
+        self.recent.push_reserved(step.copy());
+        Some(reply)
+    }
+}
