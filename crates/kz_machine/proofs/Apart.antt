@@ -1,0 +1,29 @@
+-- A record of the run of a bundle's order is that of a run, and keeps its zones apart.
+use Rattle.std.proofs.Common.{◌≡◌, List, subst, sym}
+use Rattle.kz_model.specs.declared.bundle.Bundle.{Bundle}
+use Rattle.kz_model.specs.declared.record.Plan.{Plan}
+use Rattle.kz_model.specs.declared.record.Record.{Record}
+use Rattle.kz_model.specs.declared.record.Visit.{Visit}
+use Rattle.kz_model.specs.declared.supply.SupplyEntry.{SupplyEntry}
+use Rattle.kz_model.specs.Isolation.{IsIsolated}
+use Rattle.kz_model.specs.Order.{order_run}
+use Rattle.kz_model.specs.Planned.{IsPlanned}
+use Rattle.kz_model.specs.Recorded.{IsOfOrder}
+use Rattle.kz_model.specs.Run.{IsRun}
+use Rattle.kz_model.proofs.Isolated.{runs_are_isolated}
+use Rattle.kz_model.proofs.OrderIsRun.{order_is_run}
+use Rattle.kz_plan.proofs.Fit.{plans_are_fit}
+
+-- the run of the order is a run
+pub run_of_order : (b : Bundle) (plan : Plan) → IsPlanned b plan → let run = order_run b plan in IsRun b plan run.journals run.log
+run_of_order b plan h = order_is_run b plan h.is_valid (plans_are_fit b plan h).zones
+
+-- so is what a record of it has
+pub record_is_run : (b : Bundle) (plan : Plan) (made : Record) → IsPlanned b plan → IsOfOrder b plan made → IsRun b plan made.visits made.supply
+record_is_run b plan made h of_order =
+    subst (λ (journals : List (List Visit)). IsRun b plan journals made.supply) (sym of_order.visits)
+    (subst (λ (log : List SupplyEntry). IsRun b plan (order_run b plan).journals log) (sym of_order.supply) (run_of_order b plan h))
+
+pub record_is_isolated : (b : Bundle) (plan : Plan) (made : Record) → IsPlanned b plan → IsOfOrder b plan made → IsIsolated b plan made.visits made.supply
+record_is_isolated b plan made h of_order =
+    runs_are_isolated b plan made.visits made.supply h.is_valid (plans_are_fit b plan h).rows (record_is_run b plan made h of_order)

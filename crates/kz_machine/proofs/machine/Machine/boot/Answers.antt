@@ -1,0 +1,51 @@
+use Rattle.std.proofs.Common.{◌≡◌, All, length, map, [], ap, ap₂, sym, ◌∙◌, subst, arith, List, refl}
+use Rattle.std.specs.List.{range_with_len}
+use Rattle.kz_model.specs.declared.record.Room.{Room}
+use Rattle.kz_model.specs.declared.bundle.TraceStep.{TraceStep}
+use Rattle.kz_supply.specs.Supply.{Supply}
+use Rattle.kz_cpu.specs.Cpu.{opened_cpu}
+use Rattle.kz_model.specs.Rooms.{rooms_of}
+use Rattle.kz_zone.specs.Room.{IsFit}
+use Rattle.kz_machine.specs.Blank.{Replies, most_entries, IsBlankFor}
+use Rattle.kz_machine.specs.Opening.{AreOpened}
+use Rattle.kz_machine.proofs.Lines.{all_lines, entries_are}
+use Rattle.kz_machine.proofs.Fit.{rooms_fit, rooms_cpus}
+use Rattle.kz_machine.proofs.Opens.{opens_at}
+use Rattle.kz_machine.proofs.machine.Machine.boot.Goals as goal
+
+pub entries_of-entries-requires : goal.entries_of-entries-requires
+entries_of-entries-requires c =
+    let b = c.args.bundle.now in
+    let plan = c.args.plan.now in
+    let all = all_lines b plan (length plan.zones) c.requires.is_valid in
+    let is : most_entries c.deref.result.now ≡ most_entries (rooms_of b plan) = ap most_entries (c.deref.ensures.value ∙ c.in_ok-rooms.ensures) in
+    let are = entries_are b plan in
+    omega arith
+
+pub cpus_of-requires-clause-fit : goal.cpus_of-requires-clause-fit
+cpus_of-requires-clause-fit c =
+    subst (λ (rooms : List Room). All IsFit rooms) (sym (c.deref-2.ensures.value ∙ c.in_ok-rooms.ensures)) (rooms_fit c.args.bundle.now c.args.plan.now c.requires.is_valid (c.plans_are_fit.ensures c.args.bundle.now c.args.plan.now c.requires))
+
+pub cpus_of-requires-clause-cpus : goal.cpus_of-requires-clause-cpus
+cpus_of-requires-clause-cpus c =
+    subst (λ (rooms : List Room). All (λ room. room.params.cpus ≡ c.args.bundle.now.cpus) rooms) (sym (c.deref-2.ensures.value ∙ c.in_ok-rooms.ensures)) (rooms_cpus c.args.bundle.now c.args.plan.now)
+
+pub books_of-requires : goal.books_of-requires
+books_of-requires c =
+    subst (λ (rooms : List Room). All IsFit rooms) (sym (c.deref-3.ensures.value ∙ c.in_ok-rooms.ensures)) (rooms_fit c.args.bundle.now c.args.plan.now c.requires.is_valid (c.plans_are_fit.ensures c.args.bundle.now c.args.plan.now c.requires))
+
+pub returns : goal.returns
+returns c =
+    let b = c.args.bundle.now in
+    let plan = c.args.plan.now in
+    let rooms = c.in_ok-rooms.ensures in
+    let seen = c.deref.ensures.value ∙ rooms in
+    let entries = c.entries_of-entries.ensures ∙ ap most_entries seen in
+    opens_at b plan _ c.requires (c.plans_are_fit.ensures b plan c.requires)
+    (c.in_ok-cpus_of.ensures ∙ ap₂ (λ (l : List Room) names. map (λ cpu. opened_cpu cpu l names) (range_with_len 0 b.cpus)) (c.deref-2.ensures.value ∙ rooms) c.len-names.ensures)
+    (subst (λ (l : List Room). AreOpened l c.in_ok-books_of.field-0.items) (c.deref-3.ensures.value ∙ rooms) c.in_ok-books_of.ensures)
+    rooms
+    (c.in_ok-new.ensures ∙ ap (λ n. let s : Supply = record { frames = b.frames; pages = b.pages; room = n; log = [] } in s) entries)
+    (c.in_ok-replies_of.ensures ∙ ap (λ (traces : List (List TraceStep)). map (λ trace. let r : Replies = record { room = length trace; items = [] } in r) traces) c.as_slice.ensures)
+    refl
+    (subst (λ (l : List Room). IsBlankFor l b.cpus c.in_ok-new-2.field-0) (c.deref-4.ensures.value ∙ rooms) c.in_ok-new-2.ensures)

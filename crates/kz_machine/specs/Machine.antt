@@ -1,0 +1,20 @@
+-- A machine as contracts see it.
+use Rattle.std.specs.Prelude.{ℕ, List, slice_index_or}
+use Rattle.kz_model.specs.declared.record.Room.{Room}
+use Rattle.kz_supply.specs.Supply.{Supply}
+use Rattle.kz_book.specs.Book.{Book}
+use Rattle.kz_cpu.specs.Cpu.{Cpu}
+use Rattle.kz_machine.specs.Blank.{Replies, Blank, no_replies}
+
+-- the CPUs, each zone's book and room, the supply, each CPU's replies, the round, and room for the record
+pub record Machine : Type 0 where
+  pub cpus : List Cpu
+  pub books : List Book
+  pub rooms : List Room
+  pub supply : Supply
+  pub replies : List Replies
+  pub round : ℕ
+  pub blank : Blank
+
+abbrev pub replies_at : List Replies → ℕ → Replies
+replies_at replies cpu = slice_index_or replies cpu no_replies

@@ -1,0 +1,48 @@
+//! A step of a CPU on a zone.
+ghost use Rattle.std.specs.Prelude.{◌≡◌, true, List};
+ghost use Rattle.kz_supply.specs.Exchange.{Exchange};
+ghost use Rattle.kz_book.specs.Book.{Journal, Keeps};
+ghost use Rattle.kz_cpu.specs.Caught.{IsCaughtUp};
+ghost use Rattle.kz_machine.specs.Steps.{IsReady, Does, side, needs_here};
+
+use kz_book::Book;
+use kz_cpu::Cpu;
+use kz_model::{Reply, Step, ZoneParams};
+use kz_supply::{SoloPages, Supply};
+
+/// A visit to the zone, in which the supply answers it alone.
+fn visit(
+    cpu: &mut Cpu,
+    book: &mut Book,
+    supply: &mut Supply,
+    round: u32,
+    params: &ZoneParams,
+    step: &Step,
+) -> Reply
+    requires ready { IsReady params.now (side cpu.old book.old supply.old) step.now }
+    requires needs { (j : Journal) → Keeps book.old j → IsCaughtUp cpu.old params.now.zone j → needs_here params.now (side cpu.old book.old supply.old) j step.now ≡ true }
+    ensures { (j : Journal) → Keeps book.old j → IsCaughtUp cpu.old params.now.zone j →
+        (after : Journal) × (exchanges : List Exchange) × Does params.now round (side cpu.old book.old supply.old) (side cpu.new book.new supply.new) step.now result j after exchanges }
+{
+    let mut pages = SoloPages::new(supply, params);
+    cpu.slow(round, params.zone, step, book, &mut pages)
+}
+
+/// A step on a zone: by the CPU itself, or in a visit where it needs one.
+pub fn one_step(
+    cpu: &mut Cpu,
+    book: &mut Book,
+    supply: &mut Supply,
+    round: u32,
+    params: &ZoneParams,
+    step: &Step,
+) -> Reply
+    requires { IsReady params.now (side cpu.old book.old supply.old) step.now }
+    ensures { (j : Journal) → Keeps book.old j → IsCaughtUp cpu.old params.now.zone j →
+        (after : Journal) × (exchanges : List Exchange) × Does params.now round (side cpu.old book.old supply.old) (side cpu.new book.new supply.new) step.now result j after exchanges }
+{
+    match cpu.local(params.zone, step) {
+        Some(reply) => reply,
+        None => visit(cpu, book, supply, round, params, step),
+    }
+}
