@@ -69,8 +69,6 @@ pub enum Cause {
     Trailing,
     /// The input has more than 33,554,432 bytes.
     TooLong,
-    /// The form is not built yet.
-    Unsupported,
 }
 
 /// A refused input: the number of the line, from 1, and the cause. Line 0 is the input as a whole.

@@ -1,0 +1,16 @@
+pub mod Counts
+pub mod Laid
+pub mod Leading
+pub mod Left
+pub mod Lengths
+pub mod Naming
+pub mod Ordered
+pub mod Pieces
+pub mod Results
+pub mod Rowed
+pub mod Ruled
+pub mod Saids
+pub mod SaidsMade
+pub mod Sectioned
+pub mod Spelled
+pub mod Tellings

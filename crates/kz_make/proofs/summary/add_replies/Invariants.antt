@@ -1,0 +1,12 @@
+use Rattle.std.proofs.Common.{◌≡◌, ◌+◌, ◌++◌, List, take}
+use Rattle.kz_model.specs.declared.step.Reply.{Reply}
+use Rattle.kz_make.specs.Telling.{IsWithin, AreTotals}
+use Rattle.kz_make.proofs.summary.add_replies.Given as goal
+
+-- the replies so far are told
+abbrev pub invariant-loop-reply : goal.invariant-loop-reply
+invariant-loop-reply l = record {
+  steps : l.totals.steps ≡ l.fn.totals.steps + l.reply-index;
+  within : IsWithin l.totals;
+  more : (before : List Reply) → AreTotals l.fn.totals before → AreTotals l.totals (before ++ take l.reply-index l.replies);
+}

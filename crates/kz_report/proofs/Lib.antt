@@ -1,0 +1,10 @@
+pub mod BasePages
+pub mod LineTexts
+pub mod Lookups
+pub mod PlanText
+pub mod Reportable
+pub mod Results
+pub mod Said
+pub mod Tally
+pub mod VisitLines
+pub mod Writable
