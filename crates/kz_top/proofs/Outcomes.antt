@@ -1,16 +1,20 @@
 -- From what the parts of the work promise to what the top call does.
-use Rattle.std.proofs.Common.{◌≡◌, ◌≤◌, ◌<◌, Bool, IsTrue, ℕ, List, [], ◌∷◌, length, Option, None, Some, Result, Ok, Err, IfSome, codes, refl, ap, sym, ◌∙◌, subst, inl, inr, arith}
+use Rattle.std.proofs.Common.{◌≡◌, ◌≢◌, ◌⊎◌, ◌≤◌, ◌<◌, ◌^◌, Bool, IsTrue, ℕ, List, [], ◌∷◌, length, Option, None, Some, Result, Ok, Err, IfSome, codes, refl, ap, sym, ◌∙◌, subst, inl, inr, arith}
 use Rattle.std.specs.Io.KnownBytes.{Appends}
+use Rattle.kz_text.specs.Numbers.{number_of}
 use Rattle.kz_text.specs.Streams.{Rose, AppendsFront}
 use Rattle.kz_model.specs.declared.bundle.Bundle.{Bundle}
 use Rattle.kz_model.specs.declared.grammar.Refusal.{Refusal}
-use Rattle.kz_model.specs.Spelling.{Spells}
+use Rattle.kz_model.specs.Made.{made_text}
+use Rattle.kz_model.specs.Spelling.{Spells, IsFirstFault}
 use Rattle.kz_model.specs.Stages.{read}
 use Rattle.kz_bundle.proofs.Walking.{spelling_is_reading}
 use Rattle.kz_top.specs.declared.command.Command.{Command}
 use Rattle.kz_top.specs.declared.command.Command.TheVariants as command
+use Rattle.kz_top.specs.declared.status.Status.{Status}
 use Rattle.kz_top.specs.declared.status.Status.TheVariants as status
-use Rattle.kz_top.specs.Call.{Asks, Gives, Refuses, IsWork, most_bytes, text_for, not_taken, unsupported}
+use Rattle.kz_top.specs.Call.{Asks, AskNothing, ReadsInput, MakesOf, Gives, Refuses, IsTaken, IsMadeFor, IsFinished, IsWork, most_bytes, taken_text, text_for}
+use Rattle.kz_top.proofs.Runs.{kept_apart}
 
 -- ---- one outcome for bytes
 
@@ -29,151 +33,244 @@ ok_or_err r a b e f = let h : Ok a ≡ Err b = sym e ∙ f in cc
 one_bundle : (bytes : List ℕ) (b c : Bundle) → Spells bytes b → Spells bytes c → b ≡ c
 one_bundle bytes b c s t = ok_same (read bytes) b c (spells_read bytes b s) (spells_read bytes c t)
 
-pub gives_one : (command : Command) (bytes text other : List ℕ) → Gives command bytes text → Gives command bytes other → text ≡ other
-gives_one command bytes text other g h =
+makes_one : (command : Command) (bytes text other : List ℕ) → MakesOf command bytes text → MakesOf command bytes other → text ≡ other
+makes_one command bytes text other g h =
     g.is_text ∙ ap (text_for command) (one_bundle bytes g.bundle h.bundle g.spells h.spells) ∙ sym h.is_text
 
-line_same : (o : Option ℕ) (m n : ℕ) → o ≡ Some m → o ≡ Some n → m ≡ n
-line_same o m n e f = let h : Some m ≡ Some n = sym e ∙ f in cc
+-- what spells a bundle has no first fault
+pub spelled_or_not : (bytes : List ℕ) (b : Bundle) (refusal : Refusal) → Spells bytes b → IsFirstFault bytes refusal → ⊥
+spelled_or_not bytes b refusal spells fault = ok_or_err (read bytes) b refusal (spells_read bytes b spells) fault
 
-taken_or_not : (o : Option ℕ) (n : ℕ) → o ≡ None → o ≡ Some n → ⊥
-taken_or_not o n e f = let h : None ≡ Some n = sym e ∙ f in cc
+not_both : (command : Command) (bytes text : List ℕ) (refusal : Refusal) → MakesOf command bytes text → Refuses command bytes refusal → ⊥
+not_both command bytes text refusal makes refuses = spelled_or_not bytes makes.bundle refusal makes.spells refuses.1
 
-pub not_both : (command : Command) (bytes text : List ℕ) (refusal : Refusal) → Gives command bytes text → Refuses command bytes refusal → ⊥
-not_both command bytes text refusal g r =
-    elim r [
-      | inl fault ↦ ok_or_err (read bytes) g.bundle refusal (spells_read bytes g.bundle g.spells) fault
-      | inr not ↦ taken_or_not (not_taken command g.bundle) not.line g.taken
-          (ap (not_taken command) (one_bundle bytes g.bundle not.bundle g.spells not.spells) ∙ not.not_taken)
-    ]
+one_refusal : (command : Command) (bytes : List ℕ) (refusal other : Refusal) → Refuses command bytes refusal → Refuses command bytes other → refusal ≡ other
+one_refusal command bytes refusal other r s = err_same (read bytes) refusal other r.1 s.1
 
-pub one_refusal : (command : Command) (bytes : List ℕ) (refusal other : Refusal) → Refuses command bytes refusal → Refuses command bytes other → refusal ≡ other
-one_refusal command bytes refusal other r s =
-    elim r [
-      | inl fault ↦ elim s [
-        | inl also ↦ err_same (read bytes) refusal other fault also
-        | inr not ↦ absurd (ok_or_err (read bytes) not.bundle refusal (spells_read bytes not.bundle not.spells) fault)
-      ]
-      | inr not ↦ elim s [
-        | inl fault ↦ absurd (ok_or_err (read bytes) not.bundle other (spells_read bytes not.bundle not.spells) fault)
-        | inr also ↦
-            not.is
-            ∙ ap unsupported (line_same (not_taken command also.bundle) not.line also.line
-            (ap (not_taken command) (one_bundle bytes also.bundle not.bundle also.spells not.spells) ∙ not.not_taken) also.not_taken)
-            ∙ sym also.is
-      ]
-    ]
+-- ---- the words ask for one command
 
--- words ask for one command
-pub asks_one : (words : List (List ℕ)) (a b : Command) → Asks words a → Asks words b → a ≡ b
+some_same : {A : Type 0} (o : Option A) (a b : A) → o ≡ Some a → o ≡ Some b → a ≡ b
+some_same o a b e f = let h : Some a ≡ Some b = sym e ∙ f in cc
+
+make_one : (words : List (List ℕ)) (m n : ℕ) → Asks words (command.Make m) → Asks words (command.Make n) → m ≡ n
+make_one words m n (digits, is, read) (others, also, again) =
+    let same : codes "make" ∷ digits ∷ [] ≡ codes "make" ∷ others ∷ [] = sym is ∙ also in
+    let digits_same : digits ≡ others = cc in
+    some_same (number_of others) m n (ap number_of (sym digits_same) ∙ read) again
+
+-- words that are one and that are two
+one_or_two : (words : List (List ℕ)) (a b c : List ℕ) → words ≡ a ∷ [] → words ≡ b ∷ c ∷ [] → ⊥
+one_or_two words a b c e f = let h : a ∷ [] ≡ b ∷ c ∷ [] = sym e ∙ f in cc
+
+asks_one : (words : List (List ℕ)) (a b : Command) → Asks words a → Asks words b → a ≡ b
 asks_one words command.Plan command.Plan h k = refl
 asks_one words command.Replay command.Replay h k = refl
 asks_one words command.Plan command.Replay h k = absurd (let e : codes "plan" ∷ [] ≡ codes "replay" ∷ [] = sym h ∙ k in cc)
 asks_one words command.Replay command.Plan h k = absurd (let e : codes "replay" ∷ [] ≡ codes "plan" ∷ [] = sym h ∙ k in cc)
+asks_one words command.Plan (command.Make n) h (digits, is, read) = absurd (one_or_two words (codes "plan") (codes "make") digits h is)
+asks_one words command.Replay (command.Make n) h (digits, is, read) = absurd (one_or_two words (codes "replay") (codes "make") digits h is)
+asks_one words (command.Make n) command.Plan (digits, is, read) h = absurd (one_or_two words (codes "plan") (codes "make") digits h is)
+asks_one words (command.Make n) command.Replay (digits, is, read) h = absurd (one_or_two words (codes "replay") (codes "make") digits h is)
+asks_one words (command.Make m) (command.Make n) h k = ap command.Make (make_one words m n h k)
 
--- ---- what was read is what was told
+-- a command that reads the input isn't that of a number
+pub reads_or_makes : (words : List (List ℕ)) (mine : Command) (number : ℕ) → Asks words mine → ReadsInput mine → Asks words (command.Make number) → ⊥
+reads_or_makes words command.Plan number asks reads make = absurd (let e : command.Plan ≡ command.Make number = asks_one words command.Plan (command.Make number) asks make in cc)
+reads_or_makes words command.Replay number asks reads make = absurd (let e : command.Replay ≡ command.Make number = asks_one words command.Replay (command.Make number) asks make in cc)
+reads_or_makes words (command.Make other) number asks reads make = absurd reads
 
-pub told_same : (rest : Option (List ℕ)) (items bytes : List ℕ) → IfSome rest (λ r. items ≡ r) → rest ≡ Some bytes → items ≡ bytes
+-- ---- what was taken is what was told
+
+told_same : (rest : Option (List ℕ)) (items bytes : List ℕ) → IfSome rest (λ r. items ≡ r) → rest ≡ Some bytes → items ≡ bytes
 told_same None items bytes h e = absurd (cc)
 told_same (Some r) items bytes h e = h ∙ same r bytes e
   where
     same : (r bytes : List ℕ) → Some r ≡ Some bytes → r ≡ bytes
     same r bytes e = cc
 
-gives_told : (words : List (List ℕ)) (rest : Option (List ℕ)) (items bytes text : List ℕ) (mine other : Command) → Asks words mine → IfSome rest (λ r. items ≡ r) →
-    Asks words other → rest ≡ Some bytes → Gives other bytes text → Gives mine items text
-gives_told words rest items bytes text mine other asks h also e gives =
-    let P : Command → List ℕ → Type 0 = λ command bytes. Gives command bytes text in
-    subst (λ command. P command items) (asks_one words other mine also asks) (subst (λ bytes. P other bytes) (sym (told_same rest items bytes h e)) gives)
+taken_same : (command : Command) (rest : Option (List ℕ)) (items bytes : List ℕ) → IsTaken command rest items → rest ≡ Some bytes → items ≡ taken_text command bytes
+taken_same command.Plan rest items bytes taken told = told_same rest items bytes taken told
+taken_same command.Replay rest items bytes taken told = told_same rest items bytes taken told
+taken_same (command.Make number) rest items bytes taken told = taken
 
-refuses_told : (words : List (List ℕ)) (rest : Option (List ℕ)) (items bytes : List ℕ) (refusal : Refusal) (mine other : Command) → Asks words mine → IfSome rest (λ r. items ≡ r) →
-    Asks words other → rest ≡ Some bytes → Refuses other bytes refusal → Refuses mine items refusal
-refuses_told words rest items bytes refusal mine other asks h also e refuses =
-    let P : Command → List ℕ → Type 0 = λ command bytes. Refuses command bytes refusal in
-    subst (λ command. P command items) (asks_one words other mine also asks) (subst (λ bytes. P other bytes) (sym (told_same rest items bytes h e)) refuses)
+made_same : (words : List (List ℕ)) (mine : Command) (number : ℕ) (rest : Option (List ℕ)) (items bytes : List ℕ) → Asks words mine → IsTaken mine rest items → Asks words (command.Make number) →
+    items ≡ taken_text mine bytes
+made_same words command.Plan number rest items bytes asks taken make = absurd (reads_or_makes words command.Plan number asks tt make)
+made_same words command.Replay number rest items bytes asks taken make = absurd (reads_or_makes words command.Replay number asks tt make)
+made_same words (command.Make m) number rest items bytes asks taken make = taken
 
-abbrev AtMost : List ℕ → Type 0
-AtMost bytes = length bytes ≤ most_bytes
+-- such a command takes the input
+reads_all : (command : Command) (bytes : List ℕ) → ReadsInput command → taken_text command bytes ≡ bytes
+reads_all command.Plan bytes reads = refl
+reads_all command.Replay bytes reads = refl
+reads_all (command.Make number) bytes reads = absurd reads
 
-too_many : (rest : Option (List ℕ)) (items bytes : List ℕ) → IfSome rest (λ r. items ≡ r) → rest ≡ Some bytes → AtMost items → most_bytes < length bytes → ⊥
-too_many rest items bytes h e few many = omega (arith, few, many, ap (λ (bytes : List ℕ). length bytes) (told_same rest items bytes h e))
+-- a made text spells a bundle, so that only an input is refused
+pub reads_if_refused : ((number : ℕ) → number < 2 ^ 64 → (b : Bundle) × Spells (made_text number) b) → (command : Command) (bytes : List ℕ) (refusal : Refusal) → IsMadeFor command bytes → IsFirstFault bytes refusal → ReadsInput command
+reads_if_refused spells command.Plan bytes refusal made fault = tt
+reads_if_refused spells command.Replay bytes refusal made fault = tt
+reads_if_refused spells (command.Make number) bytes refusal made fault =
+    let spelled = spells number made.0 in
+    spelled_or_not (made_text number) spelled.0 refusal spelled.1 (subst (λ bytes. IsFirstFault bytes refusal) made.1 fault)
 
--- ---- the work, by how it ended
+-- ---- the statuses
 
--- what was read, and the count of faults with it
+ok_or_memory : (result : Status) → result ≢ status.Usage → result ≢ status.ReadFault → ((refusal : Refusal) → result ≢ status.Refused refusal) → result ≢ status.WriteFault →
+    (result ≡ status.Ok) ⊎ (result ≡ status.Memory)
+ok_or_memory status.Ok usage read refused write = inl refl
+ok_or_memory status.Usage usage read refused write = absurd (usage refl)
+ok_or_memory (status.Refused refusal) usage read refused write = absurd (refused refusal refl)
+ok_or_memory status.ReadFault usage read refused write = absurd (read refl)
+ok_or_memory status.WriteFault usage read refused write = absurd (write refl)
+ok_or_memory status.Memory usage read refused write = inr refl
+
+refused_or_memory : (result : Status) (refusal : Refusal) → result ≢ status.Usage → result ≢ status.ReadFault → result ≢ status.Ok → result ≢ status.WriteFault →
+    ((other : Refusal) → result ≡ status.Refused other → other ≡ refusal) → (result ≡ status.Refused refusal) ⊎ (result ≡ status.Memory)
+refused_or_memory status.Ok refusal usage read ok write refused = absurd (ok refl)
+refused_or_memory status.Usage refusal usage read ok write refused = absurd (usage refl)
+refused_or_memory (status.Refused other) refusal usage read ok write refused = inl (ap (λ (x : Refusal). status.Refused x) (refused other refl))
+refused_or_memory status.ReadFault refusal usage read ok write refused = absurd (read refl)
+refused_or_memory status.WriteFault refusal usage read ok write refused = absurd (write refl)
+refused_or_memory status.Memory refusal usage read ok write refused = inr refl
+
+-- ---- the work on bytes, by how it ended
+
+pub finished_written : (command : Command) (items : List ℕ) (old new : Option (List ℕ)) (before after room : ℕ) (text : List ℕ) → MakesOf command items text → Appends old new text →
+    (length text ≤ room → after ≡ before) → IsFinished command items old new before after room status.Ok
+finished_written command items old new before after room text makes appends calm = record {
+  not_usage = λ e. cc;
+  not_read_fault = λ e. cc;
+  wrote = λ e. (text, makes, appends);
+  refused = λ refusal e. absurd (cc);
+  write_fault = λ e. absurd (cc);
+  front = λ e. absurd (cc);
+  sure_out = λ other also fits. (λ e. cc, calm (omega (arith, fits, ap (λ (text : List ℕ). length text) (makes_one command items text other makes also))));
+}
+
+pub finished_cut_off : (command : Command) (items : List ℕ) (old new : Option (List ℕ)) (before after room : ℕ) (text : List ℕ) → MakesOf command items text → AppendsFront old new text →
+    Rose before after → (length text ≤ room → ⊥) → IsFinished command items old new before after room status.WriteFault
+finished_cut_off command items old new before after room text makes appends rose no_room = record {
+  not_usage = λ e. cc;
+  not_read_fault = λ e. cc;
+  wrote = λ e. absurd (cc);
+  refused = λ refusal e. absurd (cc);
+  write_fault = λ e. rose;
+  front = λ e. (text, makes, appends);
+  sure_out = λ other also fits. absurd (no_room (omega (arith, fits, ap (λ (text : List ℕ). length text) (makes_one command items text other makes also))));
+}
+
+-- ---- the work, where its command's bytes are there
+
+-- what a command takes, and the input's count of faults with it
 pub record IsRead (words : List (List ℕ)) (rest : Option (List ℕ)) (before after : ℕ) (is_sure : Bool) (command : Command) (items : List ℕ) : Type 0 where
   pub asks : Asks words command
-  pub told : IfSome rest (λ r. items ≡ r)
-  pub few : AtMost items
+  pub taken : IsTaken command rest items
+  pub few : length items ≤ most_bytes
   pub later : before ≤ after
   pub sure : IsTrue is_sure → after ≡ before
 
-refused_same : (a b : Refusal) → status.Refused a ≡ status.Refused b → a ≡ b
-refused_same a b e = cc
+module _ (words : List (List ℕ)) (rest : Option (List ℕ)) (before after : ℕ) (is_sure : Bool) (old new : Option (List ℕ)) (wrote wrote_after room : ℕ) (result : Status) (mine : Command) (items : List ℕ)
+    (r : IsRead words rest before after is_sure mine items) (f : IsFinished mine items old new wrote wrote_after room result) where
+  -- what another command takes, where the words ask for it, is what this one takes
+  taken_other : (other : Command) (bytes : List ℕ) → Asks words other → rest ≡ Some bytes → taken_text other bytes ≡ items
+  taken_other other bytes asks told =
+      ap (λ command. taken_text command bytes) (asks_one words other mine asks r.asks) ∙ sym (taken_same mine rest items bytes r.taken told)
 
-pub work_refused : (words : List (List ℕ)) (rest : Option (List ℕ)) (before after : ℕ) (is_sure : Bool) (old : Option (List ℕ)) (wrote room : ℕ) (command : Command) (items : List ℕ) (refusal : Refusal) →
-    IsRead words rest before after is_sure command items → Refuses command items refusal →
-    IsWork words rest before after is_sure old old wrote wrote room (status.Refused refusal)
-work_refused words rest before after is_sure old wrote room command items refusal r refuses = record {
+  makes_mine : (other : Command) (bytes text : List ℕ) → Asks words other → taken_text other bytes ≡ items → Gives other bytes text → MakesOf mine items text
+  makes_mine other bytes text asks same gives =
+      subst (λ command. MakesOf command items text) (asks_one words other mine asks r.asks) (subst (λ taken. MakesOf other taken text) same gives)
+
+  refuses_mine : (other : Command) (bytes : List ℕ) (refusal : Refusal) → Asks words other → rest ≡ Some bytes → Refuses other bytes refusal → Refuses mine items refusal
+  refuses_mine other bytes refusal asks told refuses = (
+    subst (λ command. ReadsInput command) (asks_one words other mine asks r.asks) refuses.0,
+    subst (λ taken. IsFirstFault taken refusal) (sym (reads_all other bytes refuses.0) ∙ taken_other other bytes asks told) refuses.1,
+  )
+
+  -- where the words are those of a number
+  made_other : (number : ℕ) (bytes : List ℕ) → Asks words (command.Make number) → taken_text (command.Make number) bytes ≡ items
+  made_other number bytes asks =
+      ap (λ command. taken_text command bytes) (asks_one words (command.Make number) mine asks r.asks) ∙ sym (made_same words mine number rest items bytes r.asks r.taken asks)
+
+  gives_here : (bytes text : List ℕ) → items ≡ taken_text mine bytes → MakesOf mine items text → Gives mine bytes text
+  gives_here bytes text same makes = subst (λ taken. MakesOf mine taken text) same makes
+
+  not_refused : (number : ℕ) (refusal : Refusal) → Asks words (command.Make number) → result ≢ status.Refused refusal
+  not_refused number refusal make e = reads_or_makes words mine number r.asks (f.refused refusal e).0 make
+
+  pub work_finished : IsWork words rest before after is_sure old new wrote wrote_after room result
+  work_finished = record {
+    wrote = λ e bytes told.
+        let w = f.wrote e in
+        (mine, w.0, r.asks, gives_here bytes w.0 (taken_same mine rest items bytes r.taken told) w.1, w.2);
+    made = λ e number make.
+        let w = f.wrote e in
+        (mine, w.0, r.asks, gives_here [] w.0 (made_same words mine number rest items [] r.asks r.taken make) w.1, w.2);
+    isolated = λ e asks bytes told.
+        let makes = (f.wrote e).1 in
+        kept_apart bytes makes.bundle (subst (λ taken. Spells taken makes.bundle) (sym (taken_other command.Replay bytes asks told)) makes.spells);
+    refused = λ refusal e bytes told.
+        let refuses = f.refused refusal e in
+        let same : items ≡ bytes = taken_same mine rest items bytes r.taken told ∙ reads_all mine bytes refuses.0 in
+        inr (mine, r.asks, subst (λ bytes. length bytes ≤ most_bytes) same r.few, (refuses.0, subst (λ bytes. IsFirstFault bytes refusal) same refuses.1));
+    made_not_refused = not_refused;
+    read_fault = λ e. absurd (f.not_read_fault e);
+    made_not_read = λ number make. f.not_read_fault;
+    write_fault = f.write_fault;
+    front = λ e bytes told.
+        let w = f.front e in
+        (mine, w.0, r.asks, gives_here bytes w.0 (taken_same mine rest items bytes r.taken told) w.1, w.2);
+    made_front = λ e number make.
+        let w = f.front e in
+        (mine, w.0, r.asks, gives_here [] w.0 (made_same words mine number rest items [] r.asks r.taken make) w.1, w.2);
+    later = r.later;
+    completes = λ other bytes text asks told few gives quiet calm.
+        ok_or_memory result f.not_usage f.not_read_fault
+        (λ refusal e. not_both mine items text refusal (makes_mine other bytes text asks (taken_other other bytes asks told) gives) (f.refused refusal e))
+        (λ e. calm (f.write_fault e));
+    made_completes = λ number make calm.
+        ok_or_memory result f.not_usage f.not_read_fault (λ refusal. not_refused number refusal make) (λ e. calm (f.write_fault e));
+    refuses = λ other bytes refusal asks told few refuses quiet.
+        let mine_refuses = refuses_mine other bytes refusal asks told refuses in
+        refused_or_memory result refusal f.not_usage f.not_read_fault
+        (λ e. not_both mine items (f.wrote e).0 refusal (f.wrote e).1 mine_refuses)
+        (λ e. not_both mine items (f.front e).0 refusal (f.front e).1 mine_refuses)
+        (λ also e. one_refusal mine items also refusal (f.refused also e) mine_refuses);
+    limits = λ other bytes asks reads told many quiet.
+        absurd (omega (arith, r.few, many, ap (λ (bytes : List ℕ). length bytes) (sym (reads_all other bytes reads) ∙ taken_other other bytes asks told)));
+    sure_input = λ sure. (f.not_read_fault, r.sure sure);
+    sure_out = λ other bytes text asks told gives fits.
+        f.sure_out text (makes_mine other bytes text asks (taken_other other bytes asks told) gives) fits;
+    made_sure_out = λ number text make gives fits.
+        f.sure_out text (makes_mine (command.Make number) [] text make (made_other number [] make) gives) fits;
+  }
+
+-- where the input was read
+pub taken_input : (mine : Command) (rest : Option (List ℕ)) (items : List ℕ) → ReadsInput mine → IfSome rest (λ bytes. items ≡ bytes) → IsTaken mine rest items
+taken_input command.Plan rest items reads told = told
+taken_input command.Replay rest items reads told = told
+taken_input (command.Make number) rest items reads told = absurd reads
+
+-- ---- the work, where nothing is asked
+
+pub work_unasked : (words : List (List ℕ)) (rest : Option (List ℕ)) (faults : ℕ) (is_sure : Bool) (taken : Option (List ℕ)) (wrote room : ℕ) → AskNothing words →
+    IsWork words rest faults faults is_sure taken taken wrote wrote room status.Usage
+work_unasked words rest faults is_sure taken wrote room nothing = record {
   wrote = λ e. absurd (cc);
-  refused = λ other e bytes told.
-      let P : List ℕ → Type 0 = λ bytes. AtMost bytes × Refuses command bytes other in
-      let Q : Refusal → Type 0 = λ refusal. Refuses command items refusal in
-      let here = subst P (told_same rest items bytes r.told told) (r.few, subst Q (refused_same refusal other e) refuses) in
-      inr (command, r.asks, here.0, here.1);
+  made = λ e. absurd (cc);
+  isolated = λ e. absurd (cc);
+  refused = λ refusal e. absurd (cc);
+  made_not_refused = λ number refusal asks. absurd (nothing (command.Make number) asks);
   read_fault = λ e. absurd (cc);
+  made_not_read = λ number asks. absurd (nothing (command.Make number) asks);
   write_fault = λ e. absurd (cc);
   front = λ e. absurd (cc);
-  later = r.later;
-  completes = λ other bytes text asks told few gives quiet calm.
-      absurd (not_both command items text refusal (gives_told words rest items bytes text command other r.asks r.told asks told gives) refuses);
-  refuses = λ other bytes also asks told few is quiet.
-      inl (ap (λ (x : Refusal). status.Refused x) (one_refusal command items refusal also refuses (refuses_told words rest items bytes also command other r.asks r.told asks told is)));
-  limits = λ other bytes asks told many quiet. absurd (too_many rest items bytes r.told told r.few many);
-  sure_input = λ sure. (λ e. cc, r.sure sure);
-  sure_out = λ other bytes text asks told gives fits. (λ e. cc, refl);
-}
-
-pub work_written : (words : List (List ℕ)) (rest : Option (List ℕ)) (before after : ℕ) (is_sure : Bool) (old new : Option (List ℕ)) (wrote wrote_after room : ℕ) (command : Command) (items text : List ℕ) →
-    IsRead words rest before after is_sure command items → Gives command items text → Appends old new text → (length text ≤ room → wrote_after ≡ wrote) →
-    IsWork words rest before after is_sure old new wrote wrote_after room status.Ok
-work_written words rest before after is_sure old new wrote wrote_after room command items text r gives appends calm = record {
-  wrote = λ e bytes told.
-      let P : List ℕ → Type 0 = λ bytes. Gives command bytes text in
-      (command, text, r.asks, subst P (told_same rest items bytes r.told told) gives, appends);
-  refused = λ other e. absurd (cc);
-  read_fault = λ e. absurd (cc);
-  write_fault = λ e. absurd (cc);
-  front = λ e. absurd (cc);
-  later = r.later;
-  completes = λ other bytes text asks told few gives quiet calm. inl refl;
-  refuses = λ other bytes also asks told few is quiet.
-      absurd (not_both command items text also gives (refuses_told words rest items bytes also command other r.asks r.told asks told is));
-  limits = λ other bytes asks told many quiet. absurd (too_many rest items bytes r.told told r.few many);
-  sure_input = λ sure. (λ e. cc, r.sure sure);
-  sure_out = λ other bytes also asks told is fits.
-      let same : text ≡ also = gives_one command items text also gives (gives_told words rest items bytes also command other r.asks r.told asks told is) in
-      (λ e. cc, calm (omega (arith, fits, ap (λ (text : List ℕ). length text) same)));
-}
-
-pub work_cut_off : (words : List (List ℕ)) (rest : Option (List ℕ)) (before after : ℕ) (is_sure : Bool) (old new : Option (List ℕ)) (wrote wrote_after room : ℕ) (command : Command) (items text : List ℕ) →
-    IsRead words rest before after is_sure command items → Gives command items text → AppendsFront old new text → Rose wrote wrote_after → (length text ≤ room → ⊥) →
-    IsWork words rest before after is_sure old new wrote wrote_after room status.WriteFault
-work_cut_off words rest before after is_sure old new wrote wrote_after room command items text r gives appends rose no_room = record {
-  wrote = λ e. absurd (cc);
-  refused = λ other e. absurd (cc);
-  read_fault = λ e. absurd (cc);
-  write_fault = λ e. rose;
-  front = λ e bytes told.
-      let P : List ℕ → Type 0 = λ bytes. Gives command bytes text in
-      (command, text, r.asks, subst P (told_same rest items bytes r.told told) gives, appends);
-  later = r.later;
-  completes = λ other bytes text asks told few gives quiet calm. absurd (calm rose);
-  refuses = λ other bytes also asks told few is quiet.
-      absurd (not_both command items text also gives (refuses_told words rest items bytes also command other r.asks r.told asks told is));
-  limits = λ other bytes asks told many quiet. absurd (too_many rest items bytes r.told told r.few many);
-  sure_input = λ sure. (λ e. cc, r.sure sure);
-  sure_out = λ other bytes also asks told is fits.
-      let same : text ≡ also = gives_one command items text also gives (gives_told words rest items bytes also command other r.asks r.told asks told is) in
-      absurd (no_room (omega (arith, fits, ap (λ (text : List ℕ). length text) same)));
+  made_front = λ e. absurd (cc);
+  later = omega arith;
+  completes = λ command bytes text asks told few gives quiet calm. absurd (nothing command asks);
+  made_completes = λ number asks calm. absurd (nothing (command.Make number) asks);
+  refuses = λ command bytes refusal asks told few refuses quiet. absurd (nothing command asks);
+  limits = λ command bytes asks reads told many quiet. absurd (nothing command asks);
+  sure_input = λ sure. (λ e. cc, refl);
+  sure_out = λ command bytes text asks told gives fits. absurd (nothing command asks);
+  made_sure_out = λ number text asks gives fits. absurd (nothing (command.Make number) asks);
 }

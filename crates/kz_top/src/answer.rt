@@ -1,15 +1,17 @@
 //! From the bytes of a bundle to the text that is made of it.
-ghost use Rattle.std.specs.Prelude.{◌≡◌, ◌≤◌, ℕ, All, length, IfOk, MatchResult, None, Some, vec_len, string_bytes};
-ghost use Rattle.kz_model.specs.Valid.{IsValid, plan_in, layouts_in};
-ghost use Rattle.kz_top.specs.Call.{Gives, Refuses, text_for, not_taken, unsupported};
+ghost use Rattle.std.specs.Prelude.{◌≡◌, ◌≤◌, All, length, IfOk, MatchResult};
+ghost use Rattle.kz_model.specs.Planned.{IsPlanned};
+ghost use Rattle.kz_model.specs.Summary.{summary_text as told, replies_of_run};
+ghost use Rattle.kz_model.specs.Valid.{IsValid, layouts_in, plan_in, replayed_text};
+ghost use Rattle.kz_top.specs.Call.{IsMadeFor, MakesOf, Refuses, text_for};
 
-use crate::built::first_outside;
 use crate::command::Command;
-use crate::planned::plan_text;
-use crate::replayed::replay_text;
 use kz_bundle::{ReadBundleFault, read_with_layouts};
-use kz_model::{Bundle, Cause, Layout, Plan, Refusal};
+use kz_machine::replay;
+use kz_make::{made_bundles_spell, summary_text};
+use kz_model::{Bundle, Layout, Plan, Refusal};
 use kz_plan::plan;
+use kz_report::{plan_text_with, text_with};
 use std::alloc::{AllocError, Global};
 
 /// The plan of a bundle, by the layouts of its types.
@@ -27,31 +29,57 @@ fn plan_of(alloc: Global, bundle: &Bundle, layouts: &[Layout]) -> Result<Plan, A
     }
 }
 
-/// The text that a command makes of a bundle, or the first line that it doesn't take.
+/// The report of the run of a bundle's order.
+fn report_of(
+    alloc: Global,
+    bundle: &Bundle,
+    plan: &Plan,
+    layouts: &[Layout],
+) -> Result<Vec<u8>, AllocError>
+    requires planned { IsPlanned bundle.now plan.now }
+    requires layouts { layouts.now ≡ layouts_in bundle.now }
+    ensures { IfOk result (λ text. text.items ≡ replayed_text bundle.now) }
+{
+    let made = replay(alloc, bundle, plan)?;
+    text_with(alloc, bundle, plan, layouts, &made)
+}
+
+/// The summary of the run of the order of a bundle that was made of this number, and that has so many bytes.
+#[tactic(auto, using(crate::proofs::Few::few_replies))]
+fn summary_of(
+    alloc: Global,
+    number: u64,
+    bytes: u64,
+    bundle: &Bundle,
+    plan: &Plan,
+) -> Result<Vec<u8>, AllocError>
+    requires { IsPlanned bundle.now plan.now }
+    ensures { IfOk result (λ text. text.items ≡ told number bytes (replies_of_run bundle.now)) }
+{
+    let made = replay(alloc, bundle, plan)?;
+    summary_text(alloc, number, bytes, &made)
+}
+
+/// The text that a command makes of the bundle that these bytes spell.
 fn text_of(
     alloc: Global,
     command: Command,
+    bytes: &[u8],
     bundle: &Bundle,
     layouts: &[Layout],
-) -> Result<Result<String, Refusal>, AllocError>
+) -> Result<Vec<u8>, AllocError>
+    requires made { IsMadeFor command bytes.now }
     requires valid { IsValid bundle.now }
     requires layouts { layouts.now ≡ layouts_in bundle.now }
     requires few { length layouts.now ≤ 1024 }
     requires sizes { All (λ layout. layout.size ≤ 8192) layouts.now }
-    ensures { IfOk result (λ outcome. MatchResult outcome
-        (λ text. (not_taken command bundle.now ≡ None) × (string_bytes text ≡ text_for command bundle.now))
-        (λ refusal. (line : ℕ) × (not_taken command bundle.now ≡ Some line) × (refusal ≡ unsupported line))) }
+    ensures { IfOk result (λ text. text.items ≡ text_for command bundle.now) }
 {
     let plan = plan_of(alloc, bundle, layouts)?;
     match command {
-        Command::Plan => Ok(Ok(plan_text(alloc, bundle, &plan, layouts)?)),
-        Command::Replay => match first_outside(bundle, &plan) {
-            Some(line) => Ok(Err(Refusal {
-                line,
-                cause: Cause::Unsupported,
-            })),
-            None => Ok(Ok(replay_text(alloc, bundle, &plan, layouts)?)),
-        },
+        Command::Plan => plan_text_with(alloc, bundle, &plan, layouts),
+        Command::Replay => report_of(alloc, bundle, &plan, layouts),
+        Command::Make { number } => summary_of(alloc, number, bytes.len() as u64, bundle, &plan),
     }
 }
 
@@ -59,14 +87,25 @@ fn text_of(
 pub fn answer(
     alloc: Global,
     command: Command,
-    bytes: Vec<u8>,
-) -> Result<Result<String, Refusal>, AllocError>
-    requires { vec_len bytes ≤ 33554432 }
-    ensures { IfOk result (λ outcome. MatchResult outcome (λ text. Gives command bytes.items (string_bytes text)) (λ refusal. Refuses command bytes.items refusal)) }
+    bytes: &[u8],
+) -> Result<Result<Vec<u8>, Refusal>, AllocError>
+    requires few { length bytes.now ≤ 33554432 }
+    requires made { IsMadeFor command bytes.now }
+    ensures { IfOk result (λ outcome. MatchResult outcome (λ text. MakesOf command bytes.now text.items) (λ refusal. Refuses command bytes.now refusal)) }
 {
-    match read_with_layouts(alloc, bytes.as_slice()) {
-        Ok((bundle, layouts)) => text_of(alloc, command, &bundle, layouts.as_slice()),
-        Err(ReadBundleFault::Refused(refusal)) => Ok(Err(refusal)),
+    match read_with_layouts(alloc, bytes) {
+        Ok((bundle, layouts)) => Ok(Ok(text_of(
+            alloc,
+            command,
+            bytes,
+            &bundle,
+            layouts.as_slice(),
+        )?)),
+        Err(ReadBundleFault::Refused(refusal)) => {
+            // A made text spells a bundle, so that this is the refusal of an input.
+            made_bundles_spell();
+            Ok(Err(refusal))
+        }
         Err(ReadBundleFault::Memory) => Err(AllocError),
     }
 }

@@ -1,8 +1,9 @@
-//! The commands, each one word.
-ghost use Rattle.std.specs.Prelude.{◌≡◌, MatchOption};
-ghost use Rattle.kz_top.specs.Call.{Asks, AskNothing, IsNoWord, word_of};
+//! The commands: one word, or `make` and a number.
+ghost use Rattle.std.specs.Prelude.{◌∷◌, [], MatchOption};
+ghost use Rattle.kz_top.specs.Call.{Asks, AskNothing};
 
 use kz_model::Items;
+use kz_text::read_u64;
 
 /// What is made of a bundle.
 #[derive(Clone, Copy, Debug, PartialEq, Eq)]
@@ -11,6 +12,8 @@ pub enum Command {
     Plan,
     /// The report of the run of its order.
     Replay,
+    /// The summary of the run of the bundle that is made of a number. No input is read.
+    Make { number: u64 },
 }
 
 /// The command that the words ask for.
@@ -19,17 +22,29 @@ pub fn command_of(words: &[Items<u8>]) -> Option<Command>
 {
     match words {
         [word] => command_named(word.as_slice()),
+        [word, number] => command_with(word.as_slice(), number.as_slice()),
         _ => None,
     }
 }
 
 fn command_named(word: &[u8]) -> Option<Command>
-    ensures { MatchOption result (IsNoWord word.now) (λ command. word.now ≡ word_of command) }
+    ensures { MatchOption result (AskNothing (word.now ∷ [])) (λ command. Asks (word.now ∷ []) command) }
 {
     if word == b"plan".as_slice() {
         Some(Command::Plan)
     } else if word == b"replay".as_slice() {
         Some(Command::Replay)
+    } else {
+        None
+    }
+}
+
+fn command_with(word: &[u8], number: &[u8]) -> Option<Command>
+    ensures { MatchOption result (AskNothing (word.now ∷ number.now ∷ [])) (λ command. Asks (word.now ∷ number.now ∷ []) command) }
+{
+    if word == b"make".as_slice() {
+        let number = read_u64(number)?;
+        Some(Command::Make { number })
     } else {
         None
     }

@@ -2,19 +2,13 @@
 #![tactic(auto)]
 
 mod answer;
-mod built;
 mod call;
 mod command;
-mod first;
-mod lines;
-mod machine;
-mod planned;
-mod replayed;
-mod report;
 mod status;
 #[cfg(test)]
 mod tests;
 
 pub use call::kzone_still;
 pub use command::Command;
+pub use kz_make::make_bundle;
 pub use status::Status;

@@ -110,7 +110,6 @@ fn append_cause(line: &mut ArrayVec<u8, 64>, cause: Cause)
         Cause::Truncated => append(line, b"truncated"),
         Cause::Trailing => append(line, b"trailing"),
         Cause::TooLong => append(line, b"too long"),
-        Cause::Unsupported => append(line, b"unsupported"),
     }
 }
 

@@ -1,4 +1,4 @@
-//! `kzone`: reads a bundle from standard input, and writes the text of its plan or the report of its replay to standard output.
+//! `kzone`: reads a bundle from standard input, and writes the text of its plan or the report of its replay to standard output. `kzone make N` reads nothing: it writes the summary of the replay of the bundle that is made of the number N.
 #![tactic(auto)]
 
 use kz_model::Items;
