@@ -59,7 +59,9 @@ pub mod Shares
 pub mod SharesGrow
 pub mod SharesExist
 mod ReadingRows
+pub mod Beside
 pub mod Shorts
+pub mod Briefs
 pub mod PlanRows
 pub mod Isolated
 pub mod LaidOut

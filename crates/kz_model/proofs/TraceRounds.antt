@@ -4,6 +4,7 @@ use Rattle.std.specs.List.{filter, filter_map, flat_map, range_with_len, cons_op
 use Rattle.std.specs.List.Sorted.{IsNonDecreasingBy}
 use Rattle.std.proofs.lemmas.Grind.{flat_map-append}
 use Rattle.std.proofs.lemmas.List.{get_or_append_left, get_or-append-add, get_or_past}
+use Rattle.std.proofs.lemmas.List.Sums.{get_or-le-sum_by}
 use Rattle.std.proofs.lemmas.List.Elements.{All-get_or, All-head, All-tail, All-weaker, All-nil, filter_map-append}
 use Rattle.kz_model.specs.declared.bundle.Bundle.{Bundle}
 use Rattle.kz_model.specs.declared.bundle.TraceStep.{TraceStep}
@@ -89,6 +90,9 @@ trace_is (line ∷ rest) n rising below =
     in_zero lt = omega arith
 
 -- ---- the traces of a valid bundle
+
+pub short_traces : (b : Bundle) → IsValid b → All (λ trace. length trace ≤ 1000000) b.traces
+short_traces b valid = λ k d lt. omega (arith, get_or-le-sum_by (λ (trace : List TraceStep). length trace) b.traces k d lt, valid.few_steps)
 
 -- a CPU that is none of the bundle's has no lines
 pub steps_within : (b : Bundle) → IsValid b → (cpu : ℕ) → All (IsStepWithin (length b.names) (length b.types) b.rounds) (trace_of b cpu)

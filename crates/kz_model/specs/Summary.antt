@@ -5,7 +5,7 @@ use Rattle.kz_model.specs.declared.bundle.Bundle.{Bundle}
 use Rattle.kz_model.specs.declared.step.Reply.{Reply}
 use Rattle.kz_model.specs.declared.step.Reply.TheVariants as reply
 use Rattle.kz_model.specs.Order.{order_run}
-use Rattle.kz_model.specs.Report.{Answered, all_answered_lines}
+use Rattle.kz_model.specs.Report.{all_answered_lines}
 use Rattle.kz_model.specs.Text.{text_of_lines}
 use Rattle.kz_model.specs.Valid.{plan_in}
 

@@ -5,7 +5,9 @@ mod bundle;
 mod grammar;
 mod laws;
 mod layout;
+mod recent;
 mod record;
+mod replies;
 mod short;
 mod step;
 mod supply;
@@ -21,7 +23,9 @@ pub use laws::{
     runs_keep_zones_apart, shares_are_fair, steps_without_a_visit_are_local,
 };
 pub use layout::{LayoutCause, LayoutFault};
+pub use recent::RecentSteps;
 pub use record::{Geometry, Layout, Plan, Record, Room, Visit, ZoneParams, ZoneRow};
+pub use replies::{Replies, ReplySheet};
 pub use short::Trace;
 pub use sqlite_items::Items;
 pub use step::{Block, Bound, Reply, Step};

@@ -1,5 +1,5 @@
 //! The steps of a trace as they are kept. A write's bytes stand apart, so that no other step takes room for them.
-ghost use Rattle.std.specs.Prelude.{◌≡◌, ◌<◌, ◌^◌, ℕ, List, [], ◌∷◌, ◌++◌, length, map, All, OnOk, OnErr, IfOk, slice_index_or};
+ghost use Rattle.std.specs.Prelude.{◌≡◌, ◌<◌, ◌^◌, ℕ, List, [], ◌∷◌, ◌++◌, length, map, All, OnOk, OnErr, IfOk, slice_index_or, vec_len, vec_capacity};
 ghost use Rattle.kz_model.specs.Traces.{act_meant, no_step, IsWithin, AreNumbered, renumbered_short, renumbered_kept, renumbered_step};
 
 use crate::{Act, Piece, TraceStep};
@@ -164,6 +164,17 @@ fn renumber_all(steps: &mut Vec<ShortStep>, names: &[u32], types: &[u32])
     }
 }
 
+/// Room for one more step.
+fn make_room(steps: &mut Vec<ShortStep>) -> Result<(), AllocError>
+    ensures kept { steps.new.items ≡ steps.old.items }
+    ensures room { OnOk result (vec_len steps.new < vec_capacity steps.new) }
+{
+    if steps.len() < steps.capacity() {
+        return Ok(());
+    }
+    steps.reserve(1)
+}
+
 impl Trace {
     pub fn new(alloc: Global) -> Trace
         ensures { result ≡ [] }
@@ -188,6 +199,18 @@ impl Trace {
         let TraceStep { line, round, act } = step;
         let act = short_of(&mut self.pieces, act)?;
         self.steps.push(ShortStep { line, round, act })?;
+        Ok(())
+    }
+
+    /// One more step, by its parts.
+    #[inline(always)]
+    pub fn put(&mut self, line: u32, round: u32, act: Act) -> Result<(), AllocError>
+        ensures ok { OnOk result (self.new ≡ self.old ++ record { line = line; round = round; act = act } ∷ []) }
+        ensures err { OnErr result (self.new ≡ self.old) }
+    {
+        make_room(&mut self.steps)?;
+        let act = short_of(&mut self.pieces, act)?;
+        self.steps.push_reserved(ShortStep { line, round, act });
         Ok(())
     }
 
