@@ -1,45 +1,19 @@
 -- Short texts packed into numbers, and what an index finds after one more text.
-use Rattle.std.proofs.Common.{◌≡◌, ◌≢◌, ◌⊎◌, ℕ, zero, suc, ◌*◌, ◌<◌, ◌≤◌, true, false, List, [], ◌∷◌, length, Some, cond, nat_eq, nat_le, get_or, drop, Fits, w8, length-drop, refl, ap, sym, ◌∙◌, inl, inr, rules, arith, tests}
+use Rattle.std.proofs.Common.{◌≡◌, ◌≢◌, ◌⊎◌, ℕ, ◌<◌, ◌≤◌, true, false, List, [], ◌∷◌, length, Some, cond, nat_eq, nat_le, get_or, Fits, w8, refl, ap, sym, ◌∙◌, inl, inr, rules, arith, tests}
 use Rattle.std.specs.Map.{lookup}
 use Rattle.std.specs.Str.{bytes_eq}
 use Rattle.std.specs.HashMap as hash
 use Rattle.std.specs.Cmp.Lexicographic.{bytes_decides}
 use Rattle.std.proofs.lemmas.Bool.{cases_Bool, cases_lt, cond-true, cond-false}
 use Rattle.std.proofs.lemmas.Bool.Decides.{Decides-eqb, same_from_decides}
-use Rattle.std.proofs.lemmas.List.Elements.{All-head, All-tail, All-drop, All-from_get_or}
+use Rattle.std.proofs.lemmas.List.Elements.{All-head, All-tail, All-from_get_or}
 use Rattle.std.proofs.lemmas.Map.Text.{hash_map_updates_str}
 use Rattle.kz_bundle.specs.declared.index.Index.{Index}
 use Rattle.kz_bundle.specs.Table.{AreBytes, key_of, found}
 
--- ---- how large a key is
-
--- no key of a text of at most so many bytes comes up to this
-abbrev pub most : ℕ → ℕ
-most zero = 2
-most (suc n) = 256 * most n
-
-some_keys : (n : ℕ) → 2 ≤ most n
-some_keys zero = omega arith
-some_keys (suc n) = let more = some_keys n in omega arith
-
-pub key_below : (text : List ℕ) (n : ℕ) → AreBytes text → length text ≤ n → key_of text < most n
-key_below [] n bytes le = let some = some_keys n in omega arith
-key_below (byte ∷ text) zero bytes le = absurd (omega arith)
-key_below (byte ∷ text) (suc n) bytes le =
-    let first = All-head (λ byte. byte < 256) byte text bytes in
-    let rest = key_below text n (All-tail (λ byte. byte < 256) byte text bytes) (omega arith) in
-    omega arith
-
 -- the elements of a slice of bytes
 pub are_bytes : (text : List ℕ) → ((at : ℕ) → Fits w8 (get_or text at 0)) → AreBytes text
 are_bytes text fits = All-from_get_or (λ byte. byte < 256) text 0 (λ at lt. let fit = fits at in omega arith)
-
--- while a byte is left, there is room in 64 bits for one more
-pub room : (text : List ℕ) (at key : ℕ) → ((at : ℕ) → Fits w8 (get_or text at 0)) → length text ≤ 7 → at ≢ 0 → at ≤ length text → key ≡ key_of (drop at text) → key < most 6
-room text at key fits short some within packs =
-    let bytes = All-drop (λ byte. byte < 256) at text (are_bytes text fits) in
-    let below = key_below (drop at text) 6 bytes (omega (arith, length-drop at text)) in
-    omega arith
 
 -- ---- no two texts have one key
 

@@ -5,6 +5,7 @@ pub mod AllRounds
 pub mod Table
 pub mod Rowing
 pub mod Named
+pub mod NameCuts
 pub mod NameStage
 pub mod Renumbered
 pub mod Scanning

@@ -1,10 +1,19 @@
 -- A line cut into its words.
-use Rattle.std.specs.Prelude.{◌≡◌, ◌≢◌, ℕ, ◌<◌, List, [], ◌∷◌, length, take, All, slice_index}
+use Rattle.std.specs.Prelude.{◌≡◌, ◌≢◌, ℕ, ◌<◌, true, false, List, [], ◌∷◌, length, take, All, slice_index}
+use Rattle.kz_model.specs.Tokens.{is_name_byte, is_name}
 use Rattle.kz_bundle.specs.declared.words.LineWords.{LineWords}
 use Rattle.kz_bundle.specs.declared.words.LineWords.TheVariants.{One, Two, Three, Four, More}
 
 abbrev pub HasNoSpace : List ℕ → Type 0
 HasNoSpace text = All (λ byte. byte ≢ 32) text
+
+abbrev pub AreNameBytes : List ℕ → Type 0
+AreNameBytes text = All (λ byte. is_name_byte byte ≡ true) text
+
+-- the first word isn't a NAME
+abbrev pub HasNoName : List (List ℕ) → Type 0
+HasNoName [] = ⊥
+HasNoName (word ∷ words) = is_name word ≡ false
 
 -- the first space
 pub record SpaceAt (text : List ℕ) (at : ℕ) : Type 0 where

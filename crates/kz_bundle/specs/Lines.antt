@@ -5,8 +5,7 @@ use Rattle.kz_model.specs.declared.grammar.Place.TheVariants as place
 use Rattle.kz_model.specs.TypeLines.{decl_of, IsTypeLine}
 use Rattle.kz_model.specs.Form as form
 use Rattle.kz_bundle.specs.declared.lines.Line.{Line}
-use Rattle.kz_bundle.specs.declared.lines.Line.TheVariants.{Machine, SeedOf, Cpus, Frames, Pages, Budget, Magazine, Depot, Declares, Opens, Does, Break, Orders, Turns, Ends}
-use Rattle.kz_bundle.specs.Saids.{said_as, IsNamed}
+use Rattle.kz_bundle.specs.declared.lines.Line.TheVariants.{Machine, SeedOf, Cpus, Frames, Pages, Budget, Magazine, Depot, Declares, Opens, Break, Orders, Turns, Ends}
 
 abbrev pub line_as : Line → form.Line
 line_as (Machine n) = form.Machine n
@@ -19,7 +18,6 @@ line_as (Magazine n) = form.Magazine n
 line_as (Depot n) = form.Depot n
 line_as (Declares name text) = form.Declares (decl_of text.now)
 line_as (Opens cpu) = form.Opens cpu
-line_as (Does said) = form.Does (said_as said)
 line_as Break = form.Break
 line_as Orders = form.Orders
 line_as (Turns cpu) = form.Turns cpu
@@ -44,7 +42,6 @@ FitsTypes other = ⊥
 
 -- so many sections stand before the newest
 abbrev pub FitsSteps : ℕ → ℕ → Line → Type 0
-FitsSteps cpus sections (Does said) = IsNamed said
 FitsSteps cpus sections Break = Unit {0}
 FitsSteps cpus sections (Opens cpu) = sections + 1 ≢ cpus
 FitsSteps cpus sections Orders = sections + 1 ≡ cpus

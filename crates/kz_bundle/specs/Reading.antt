@@ -1,5 +1,5 @@
 -- What the lines so far say, and what holds of it.
-use Rattle.std.specs.Prelude.{◌≡◌, ◌≢◌, ℕ, ◌+◌, ◌<◌, ◌≤◌, List, length, map, Option, None, Result, Ok, Err, sum_by, All, IsTrue, IfSome}
+use Rattle.std.specs.Prelude.{◌≡◌, ◌≢◌, ℕ, ◌+◌, ◌<◌, ◌≤◌, if◌then◌else◌, List, length, map, Option, None, Result, Ok, Err, sum_by, All, IsTrue, IfSome}
 use Rattle.std.specs.Option.{IsSome}
 use Rattle.kz_model.specs.declared.bundle.OrderLine.{OrderLine}
 use Rattle.kz_model.specs.declared.grammar.Cause.{Cause}
@@ -9,7 +9,8 @@ use Rattle.kz_model.specs.declared.grammar.Mark.TheVariants.{Fine}
 use Rattle.kz_model.specs.declared.grammar.Place.{Place}
 use Rattle.kz_model.specs.declared.grammar.Place.TheVariants as place
 use Rattle.kz_model.specs.Tokens.{is_name}
-use Rattle.kz_model.specs.Form.{Draft}
+use Rattle.kz_model.specs.Form.{Draft, is_last, cpu_line}
+use Rattle.kz_model.specs.Form as form
 use Rattle.kz_bundle.specs.declared.fault.ReadBundleFault.{ReadBundleFault}
 use Rattle.kz_bundle.specs.declared.fault.ReadBundleFault.TheVariants as whole
 use Rattle.kz_bundle.specs.declared.parts.Parts.{Parts}
@@ -73,6 +74,10 @@ pub record IsReading (r : Reader) : Type 0 where
   pub few_steps : r.steps ≤ 1000000
   pub turns : AreTurnsWithin r.header.cpus r.order
   pub order_at : r.order_at ≤ 33554432
+
+-- a line of steps that begins with `cpu`
+abbrev pub cpu_said : Draft → List (List ℕ) → Option (form.Line × Mark)
+cpu_said d words = if is_last d then None else cpu_line (length d.before + 1) words
 
 -- ---- what lines may do
 

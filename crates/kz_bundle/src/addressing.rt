@@ -59,6 +59,7 @@ fn addressed_act(bundle: &Bundle, plan: &Plan, act: Act) -> (u32, Step)
 }
 
 /// The zone that a CPU's line is addressed to, and its step there.
+#[inline(always)]
 pub fn addressed(bundle: &Bundle, plan: &Plan, cpu: u32, at: u32) -> (u32, Step)
     requires planned { IsPlanned bundle.now plan.now }
     requires cpu { cpu < bundle.now.cpus }

@@ -1,6 +1,7 @@
 //! The numbers of texts, found by hashing.
 ghost use Rattle.std.specs.Prelude.{◌≡◌, ◌≤◌, ℕ, List, [], Some, cond, length, OnOk, OnErr};
 ghost use Rattle.std.specs.Str.{bytes_eq};
+ghost use Rattle.std.specs.Map.{lookup};
 ghost use Rattle.kz_bundle.specs.Table.{key_of as packed, AreBytes, found};
 
 use std::alloc::{AllocError, Global};
@@ -23,13 +24,16 @@ fn key_of(text: &[u8]) -> u64
     requires { length text.now ≤ 7 }
     ensures { result ≡ packed text.now }
 {
-    let mut key = 1;
-    let mut at = text.len();
-    while at != 0 {
-        at -= 1;
-        key = key * 256 + text[at] as u64;
+    match *text {
+        [] => u64::from_le_bytes([1, 0, 0, 0, 0, 0, 0, 0]),
+        [a] => u64::from_le_bytes([a, 1, 0, 0, 0, 0, 0, 0]),
+        [a, b] => u64::from_le_bytes([a, b, 1, 0, 0, 0, 0, 0]),
+        [a, b, c] => u64::from_le_bytes([a, b, c, 1, 0, 0, 0, 0]),
+        [a, b, c, d] => u64::from_le_bytes([a, b, c, d, 1, 0, 0, 0]),
+        [a, b, c, d, e] => u64::from_le_bytes([a, b, c, d, e, 1, 0, 0]),
+        [a, b, c, d, e, f] => u64::from_le_bytes([a, b, c, d, e, f, 1, 0]),
+        [a, b, c, d, e, f, g, ..] => u64::from_le_bytes([a, b, c, d, e, f, g, 1]),
     }
-    key
 }
 
 impl<'a> Index<'a> {
@@ -49,8 +53,15 @@ impl<'a> Index<'a> {
         if text.len() <= MOST_PACKED {
             self.short.get(&key_of(text)).copied()
         } else {
-            self.long.get(text).copied()
+            self.get_long(text)
         }
+    }
+
+    #[inline(never)]
+    fn get_long(&self, text: &[u8]) -> Option<u32>
+        ensures { result ≡ lookup (λ key. bytes_eq text.now key.now) self.now.long.entries }
+    {
+        self.long.get(text).copied()
     }
 
     /// From now on the text has this number.

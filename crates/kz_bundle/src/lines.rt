@@ -1,13 +1,12 @@
 //! What a line says, by its words.
-ghost use Rattle.std.specs.Prelude.{◌≡◌, ◌≤◌, ◌+◌, ◌==◌, ◌≢◌, ℕ, length, IfSome};
+ghost use Rattle.std.specs.Prelude.{◌≡◌, ◌≤◌, ◌+◌, ◌==◌, ◌≢◌, ℕ, [], ◌∷◌, length, IfSome};
 ghost use Rattle.kz_model.specs.declared.grammar.Mark.TheVariants.{Fine};
-ghost use Rattle.kz_model.specs.Steps.{number_line as number_form, step_line as step_form};
-ghost use Rattle.kz_model.specs.Form.{Draft, is_last as last_form, seed_line as seed_form, header_line as header_form, cpu_line as cpu_form, line_of_steps as steps_form, line_of_order as order_form, as_line, Does as does_as};
+ghost use Rattle.kz_model.specs.Steps.{number_line as number_form};
+ghost use Rattle.kz_model.specs.Form.{Draft, is_last as last_form, seed_line as seed_form, header_line as header_form, cpu_line as cpu_form, line_of_steps as steps_form, line_of_order as order_form};
 ghost use Rattle.kz_bundle.specs.Cut.{list_of};
 ghost use Rattle.kz_bundle.specs.Saids.{found_as};
 ghost use Rattle.kz_bundle.specs.Lines.{line_as, FitsHeader, FitsTypes, FitsSteps, FitsOrder};
 
-use crate::steps::{Said, step_line};
 use crate::words::{LineWords, is, is_run, number_in, small_in};
 use kz_model::{Mark, Name, Seed};
 
@@ -25,7 +24,6 @@ pub enum Line<'a> {
     /// A type, by its name and its whole line.
     Declares(Name, &'a [u8]),
     Opens(u32),
-    Does(Said<'a>),
     Break,
     Orders,
     Turns(u32),
@@ -104,57 +102,19 @@ pub fn cpu_line<'a>(cpu: u32, words: LineWords<'_>) -> Option<(Line<'a>, Mark)>
     }
 }
 
-/// A step line.
-fn does<'a>(cpus: u32, words: LineWords<'a>) -> Option<(Line<'a>, Mark)>
-    ensures given { found_as line_as result ≡ as_line does_as (step_form cpus (list_of words.entry)) }
-    ensures fits { IfSome result (λ found. (sections : ℕ) → FitsSteps cpus sections found.0) }
+/// A line of one word in a section, where `is_last` tells whether that is the last CPU's.
+pub fn mark_line<'a>(is_last: bool, word: &[u8]) -> Option<(Line<'a>, Mark)>
+    ensures given { (d : Draft) → last_form d ≡ is_last → found_as line_as result ≡ steps_form d (word.now ∷ []) }
+    ensures fits { (cpus sections : ℕ) → is_last ≡ (sections + 1 == cpus) → IfSome result (λ found. FitsSteps cpus sections found.0) }
 {
-    match step_line(cpus, words) {
-        None => None,
-        Some((said, mark)) => Some((Line::Does(said), mark)),
-    }
-}
-
-/// A line of the newest section; `is_last` where that is the last CPU's, and else the next CPU is
-/// `next`.
-pub fn line_of_steps<'a>(
-    cpus: u32,
-    next: u32,
-    is_last: bool,
-    words: LineWords<'a>,
-) -> Option<(Line<'a>, Mark)>
-    ensures given { (d : Draft) → d.header.cpus ≡ cpus → length d.before + 1 ≡ next → last_form d ≡ is_last → found_as line_as result ≡ steps_form d (list_of words.entry) }
-    ensures fits { (sections : ℕ) → is_last ≡ (sections + 1 == cpus) → IfSome result (λ found. FitsSteps cpus sections found.0) }
-{
-    match words {
-        LineWords::One(word) => {
-            if is(word, b"--") {
-                Some((Line::Break, Mark::Fine))
-            } else if is(word, b"end") && is_last {
-                Some((Line::Ends, Mark::Fine))
-            } else if is(word, b"order") && is_last {
-                Some((Line::Orders, Mark::Fine))
-            } else {
-                None
-            }
-        }
-        LineWords::Two(word, _) => {
-            if !is(word, b"cpu") {
-                does(cpus, words)
-            } else if is_last {
-                None
-            } else {
-                cpu_line(next, words)
-            }
-        }
-        LineWords::Three(word, ..) | LineWords::Four(word, ..) => {
-            if is(word, b"cpu") {
-                None
-            } else {
-                does(cpus, words)
-            }
-        }
-        LineWords::More(_) => None,
+    if is(word, b"--") {
+        Some((Line::Break, Mark::Fine))
+    } else if is(word, b"end") && is_last {
+        Some((Line::Ends, Mark::Fine))
+    } else if is(word, b"order") && is_last {
+        Some((Line::Orders, Mark::Fine))
+    } else {
+        None
     }
 }
 

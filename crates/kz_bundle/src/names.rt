@@ -1,9 +1,9 @@
 //! A table from texts to their numbers.
-ghost use Rattle.std.specs.Prelude.{◌≡◌, ◌≤◌, ◌<◌, ◌++◌, ◌∷◌, [], length, IfOk, OnOk, OnErr, vec_len, vec_capacity};
+ghost use Rattle.std.specs.Prelude.{◌≡◌, ◌≤◌, ◌<◌, ◌++◌, ◌∷◌, [], length, None, IfOk, OnOk, OnErr, vec_len, vec_capacity};
 ghost use Rattle.kz_model.specs.Stages.{place_of};
 ghost use Rattle.kz_model.specs.Spelling.{text_at};
 ghost use Rattle.kz_bundle.specs.Parts.{texts, AreOnce};
-ghost use Rattle.kz_bundle.specs.Table.{with_text};
+ghost use Rattle.kz_bundle.specs.Table.{with_text, number_of};
 
 use crate::index::Index;
 use std::alloc::{AllocError, Global};
@@ -46,6 +46,24 @@ impl<'a> Names<'a> {
         }
     }
 
+    /// A text that isn't there yet is added.
+    #[inline(never)]
+    fn add(&mut self, text: &'a [u8]) -> Result<u32, AllocError>
+        requires few { length self.old ≤ 1000000 }
+        requires absent { number_of text.now self.old ≡ None }
+        ensures number { IfOk result (λ number. number ≡ place_of text.now self.new) }
+        ensures within { IfOk result (λ number. number < length self.new) }
+        ensures text { IfOk result (λ number. text_at self.new number ≡ text.now) }
+        ensures names { OnOk result (self.new ≡ with_text text.now self.old) }
+        ensures err { OnErr result (self.new ≡ self.old) }
+    {
+        let number = self.table.len() as u32;
+        self.table.reserve(1)?;
+        self.numbers.insert(text, number)?;
+        put(&mut self.table, text);
+        Ok(number)
+    }
+
     /// The number of a text, which is added where it is not there yet.
     pub fn number(&mut self, text: &'a [u8]) -> Result<u32, AllocError>
         requires { length self.old ≤ 1000000 }
@@ -57,13 +75,7 @@ impl<'a> Names<'a> {
     {
         match self.numbers.get(text) {
             Some(number) => Ok(number),
-            None => {
-                let number = self.table.len() as u32;
-                self.table.reserve(1)?;
-                self.numbers.insert(text, number)?;
-                put(&mut self.table, text);
-                Ok(number)
-            }
+            None => self.add(text),
         }
     }
 

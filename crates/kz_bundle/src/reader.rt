@@ -1,26 +1,27 @@
 //! What the lines of a text say, taken one after the other.
-ghost use Rattle.std.specs.Prelude.{◌≡◌, ◌≤◌, ◌+◌, ℕ, [], length, IfOk, IfSome, OnOk};
+ghost use Rattle.std.specs.Prelude.{◌≡◌, ◌≢◌, ◌≤◌, ◌+◌, ◌-◌, ℕ, [], ◌∷◌, length, Some, None, if◌then◌else◌, IfOk, IfSome, IsTrue, OnOk};
 ghost use Rattle.kz_model.specs.declared.grammar.Mark.TheVariants.{Fine};
 ghost use Rattle.kz_model.specs.declared.bundle.OrderLine.{OrderLine};
-ghost use Rattle.kz_model.specs.Tokens.{words_of as all_words};
+ghost use Rattle.kz_model.specs.Tokens.{words_of as all_words, is_name as name_form, is_hex as hex_form, number_in as number_within};
+ghost use Rattle.kz_model.specs.Steps.{step_of_2 as two_form, step_of_3 as three_form, step_of_4 as four_form, gives as gives_form, reads as reads_form, writes as writes_form};
 ghost use Rattle.kz_model.specs.TypeLines.{IsTypeLine, decl_of};
-ghost use Rattle.kz_model.specs.Form.{nothing_said, line_of_types as types_form, with_header as header_said, with_type as type_said, with_section as section_said, with_step as step_said, with_turn as turn_said, with_break as break_said, with_line, judged, line_at, after_line, rest_at};
+ghost use Rattle.kz_model.specs.Form.{as_line, Does as does_as, line_of_steps as steps_form, nothing_said, line_of_types as types_form, with_header as header_said, with_type as type_said, with_section as section_said, with_step as step_said, with_turn as turn_said, with_break as break_said, with_line, judged, line_at, after_line, rest_at};
 ghost use Rattle.kz_bundle.specs.Parts.{IsTurnWithin, AreParts, draft_of, turns_of};
+ghost use Rattle.kz_bundle.specs.Cut.{list_of};
 ghost use Rattle.kz_bundle.specs.Saids.{found_as, said_as, IsNamed};
 ghost use Rattle.kz_bundle.specs.Lines.{line_as, FitsTypes};
-ghost use Rattle.kz_bundle.specs.Reading.{so_far, IsReading, Takes, Forms, fault_at, FitsAt, FoundFits, IsNext, MayOpen};
+ghost use Rattle.kz_bundle.specs.Reading.{cpu_said, so_far, IsReading, Takes, Forms, fault_at, FitsAt, FoundFits, IsNext, MayOpen};
 
 use crate::ReadBundleFault;
 use crate::check::check_type;
-use crate::lines::{Line, cpu_line, header_line, line_of_order, line_of_steps};
+use crate::lines::{Line, cpu_line, header_line, line_of_order, mark_line};
 use crate::names::Names;
 use crate::parts::{Part, Parts};
-use crate::steps::Said;
+use crate::steps::{Said, piece_of};
 use crate::tables::Tables;
-use crate::words::{cut, is, words_of};
+use crate::words::{LineWords, cut, cut_name, is, is_name, is_run, small_in, words_of, worse};
 use kz_model::{
-    Cause, Counted, Header, Items, Mark, Name, OrderLine, Place, Refusal, Seed, Trace, TraceStep,
-    Types,
+    Cause, Counted, Header, Items, Mark, Name, OrderLine, Place, Refusal, Seed, Trace, Types,
 };
 use std::alloc::{AllocError, Global};
 use std::mem;
@@ -177,6 +178,7 @@ impl<'a> Reader<'a> {
     }
 
     /// One more step.
+    #[inline(always)]
     fn with_step(&mut self, line: u32, said: Said<'a>) -> Result<(), Fault>
         requires sound { IsReading self.old }
         requires place { self.old.place ≡ Place.Steps }
@@ -189,7 +191,7 @@ impl<'a> Reader<'a> {
         }
         let round = self.section.breaks;
         let act = self.tables.act_of(said)?;
-        self.section.steps.push(TraceStep { line, round, act })?;
+        self.section.steps.put(line, round, act)?;
         self.steps += 1;
         Ok(())
     }
@@ -258,7 +260,6 @@ impl<'a> Reader<'a> {
             Line::Depot(depot) => self.with_header(Header { depot, ..header }),
             Line::Declares(name, text) => return self.with_type(alloc, name, text),
             Line::Opens(_) => return self.with_section(alloc, number),
-            Line::Does(said) => return self.with_step(number, said),
             Line::Break => return self.with_break(),
             Line::Turns(cpu) => return self.with_turn(OrderLine::Cpu { cpu }),
             Line::Orders => self.with_order(alloc, number),
@@ -288,9 +289,210 @@ impl<'a> Reader<'a> {
         }
     }
 
+    /// What is found in a step line, added where its numbers are fine.
+    #[inline(always)]
+    fn judge_step(&mut self, number: u32, said: Said<'a>, mark: Mark) -> Result<(), Fault>
+        requires sound { IsReading self.old }
+        requires place { self.old.place ≡ Place.Steps }
+        requires named { IsNamed said }
+        ensures takes { Takes result (so_far self.new) (judged (so_far self.old) number (Some (does_as (said_as said.entry), mark))) }
+        ensures sound { OnOk result (IsReading self.new) }
+    {
+        match mark {
+            Mark::BadNumber => Err(Fault::Refused(Cause::BadNumber)),
+            Mark::OutOfRange => Err(Fault::Refused(Cause::OutOfRange)),
+            Mark::Fine => self.with_step(number, said),
+        }
+    }
+
+    /// `g NAME N`.
+    fn give(&mut self, number: u32, name: &'a [u8], to: &[u8]) -> Result<(), Fault>
+        requires sound { IsReading self.old }
+        requires place { self.old.place ≡ Place.Steps }
+        requires named { IsTrue (name_form name.now) }
+        ensures takes { Takes result (so_far self.new) (judged (so_far self.old) number (as_line does_as (Some (gives_form name.now (number_within 0 (self.old.header.cpus - 1) to.now))))) }
+        ensures sound { OnOk result (IsReading self.new) }
+    {
+        let (to, mark) = small_in(0, self.header.cpus.saturating_sub(1), to);
+        self.judge_step(number, Said::Give { name, to }, mark)
+    }
+
+    /// `r NAME OFF LEN`.
+    fn read(&mut self, number: u32, name: &'a [u8], off: &[u8], len: &[u8]) -> Result<(), Fault>
+        requires sound { IsReading self.old }
+        requires place { self.old.place ≡ Place.Steps }
+        requires named { IsTrue (name_form name.now) }
+        ensures takes { Takes result (so_far self.new) (judged (so_far self.old) number (as_line does_as (Some (reads_form name.now (number_within 0 8191 off.now) (number_within 1 32 len.now))))) }
+        ensures sound { OnOk result (IsReading self.new) }
+    {
+        let (off, off_mark) = small_in(0, 8191, off);
+        let (len, len_mark) = small_in(1, 32, len);
+        self.judge_step(
+            number,
+            Said::Read { name, off, len },
+            worse(off_mark, len_mark),
+        )
+    }
+
+    /// `w NAME OFF HEX`, where the bytes have that form.
+    #[inline(never)]
+    fn write(&mut self, number: u32, name: &'a [u8], off: &[u8], bytes: &[u8]) -> Result<(), Fault>
+        requires sound { IsReading self.old }
+        requires place { self.old.place ≡ Place.Steps }
+        requires named { IsTrue (name_form name.now) }
+        ensures takes { Takes result (so_far self.new) (judged (so_far self.old) number (as_line does_as (if hex_form bytes.now then Some (writes_form name.now (number_within 0 8191 off.now) bytes.now) else None))) }
+        ensures sound { OnOk result (IsReading self.new) }
+    {
+        let Some(bytes) = piece_of(bytes) else {
+            return Err(Fault::Refused(Cause::BadLine));
+        };
+        let (off, mark) = small_in(0, 8191, off);
+        self.judge_step(number, Said::Write { name, off, bytes }, mark)
+    }
+
+    /// A step line of two words.
+    fn step_of_two(&mut self, number: u32, word: &[u8], x: &'a [u8]) -> Result<(), Fault>
+        requires sound { IsReading self.old }
+        requires place { self.old.place ≡ Place.Steps }
+        requires named { IsTrue (name_form x.now) }
+        ensures takes { Takes result (so_far self.new) (judged (so_far self.old) number (as_line does_as (two_form word.now x.now))) }
+        ensures sound { OnOk result (IsReading self.new) }
+    {
+        // A line for each kind: its word, the forms of what follows the name, and what is taken.
+        macro_rules! by_word {
+            ($($text:literal $(if $fits:expr)? => $taken:expr;)*) => {
+                $(if is(word, $text) $(&& $fits)? { $taken } else)* { Err(Fault::Refused(Cause::BadLine)) }
+            };
+        }
+        by_word! {
+            b"f" => self.judge_step(number, Said::Free { name: x }, Mark::Fine);
+            b"t" => self.judge_step(number, Said::Take { name: x }, Mark::Fine);
+            b"flush" => self.judge_step(number, Said::Flush { of: x }, Mark::Fine);
+            b"trim" => self.judge_step(number, Said::Trim { of: x }, Mark::Fine);
+        }
+    }
+
+    /// A step line of three words.
+    fn step_of_three(
+        &mut self,
+        number: u32,
+        word: &[u8],
+        x: &'a [u8],
+        y: &'a [u8],
+    ) -> Result<(), Fault>
+        requires sound { IsReading self.old }
+        requires place { self.old.place ≡ Place.Steps }
+        requires named { IsTrue (name_form x.now) }
+        ensures takes { Takes result (so_far self.new) (judged (so_far self.old) number (as_line does_as (three_form self.old.header.cpus word.now x.now y.now))) }
+        ensures sound { OnOk result (IsReading self.new) }
+    {
+        // A line for each kind: its word, the forms of what follows the name, and what is taken.
+        macro_rules! by_word {
+            ($($text:literal $(if $fits:expr)? => $taken:expr;)*) => {
+                $(if is(word, $text) $(&& $fits)? { $taken } else)* { Err(Fault::Refused(Cause::BadLine)) }
+            };
+        }
+        by_word! {
+            b"a" if is_name(y) => self.judge_step(number, Said::Alloc { name: x, of: y }, Mark::Fine);
+            b"z" if is_name(y) => self.judge_step(number, Said::AllocZero { name: x, of: y }, Mark::Fine);
+            b"f" if is_name(y) => self.judge_step(number, Said::FreeAs { name: x, of: y }, Mark::Fine);
+            b"g" if is_run(y) => self.give(number, x, y);
+        }
+    }
+
+    /// A step line of four words.
+    fn step_of_four(
+        &mut self,
+        number: u32,
+        word: &[u8],
+        x: &'a [u8],
+        y: &[u8],
+        v: &[u8],
+    ) -> Result<(), Fault>
+        requires sound { IsReading self.old }
+        requires place { self.old.place ≡ Place.Steps }
+        requires named { IsTrue (name_form x.now) }
+        ensures takes { Takes result (so_far self.new) (judged (so_far self.old) number (as_line does_as (four_form word.now x.now y.now v.now))) }
+        ensures sound { OnOk result (IsReading self.new) }
+    {
+        // A line for each kind: its word, the forms of what follows the name, and what is taken.
+        macro_rules! by_word {
+            ($($text:literal $(if $fits:expr)? => $taken:expr;)*) => {
+                $(if is(word, $text) $(&& $fits)? { $taken } else)* { Err(Fault::Refused(Cause::BadLine)) }
+            };
+        }
+        by_word! {
+            b"r" if is_run(y) && is_run(v) => self.read(number, x, y, v);
+            b"w" if is_run(y) => self.write(number, x, y, v);
+        }
+    }
+
+    /// A line of one word in the newest section.
+    #[inline(never)]
+    fn mark(&mut self, alloc: Global, number: u32, word: &[u8]) -> Result<(), Fault>
+        requires sound { IsReading self.old }
+        requires place { self.old.place ≡ Place.Steps }
+        requires early { number ≤ 33554432 }
+        ensures takes { Takes result (so_far self.new) (judged (so_far self.old) number (steps_form (so_far self.old) (word.now ∷ []))) }
+        ensures sound { OnOk result (IsReading self.new) }
+    {
+        let is_last = self.before.len() as u32 + 1 == self.header.cpus;
+        let found = mark_line(is_last, word);
+        self.judge(alloc, number, found)
+    }
+
+    /// `cpu N`, where the section of the next CPU begins.
+    #[inline(never)]
+    fn next_cpu(&mut self, alloc: Global, number: u32, words: LineWords<'_>) -> Result<(), Fault>
+        requires sound { IsReading self.old }
+        requires place { self.old.place ≡ Place.Steps }
+        requires early { number ≤ 33554432 }
+        ensures takes { Takes result (so_far self.new) (judged (so_far self.old) number (cpu_said (so_far self.old) (list_of words.entry))) }
+        ensures sound { OnOk result (IsReading self.new) }
+    {
+        let next = self.before.len() as u32 + 1;
+        if next == self.header.cpus {
+            return Err(Fault::Refused(Cause::BadLine));
+        }
+        let found = cpu_line(next, words);
+        self.judge(alloc, number, found)
+    }
+
+    /// A line of the newest section.
+    fn line_of_steps(&mut self, alloc: Global, number: u32, text: &'a [u8]) -> Result<(), Fault>
+        requires sound { IsReading self.old }
+        requires place { self.old.place ≡ Place.Steps }
+        requires early { number ≤ 33554432 }
+        ensures takes { Takes result (so_far self.new) (judged (so_far self.old) number (steps_form (so_far self.old) (all_words text.now))) }
+        ensures sound { OnOk result (IsReading self.new) }
+    {
+        let (word, rest) = cut(text);
+        let Some(rest) = rest else {
+            return self.mark(alloc, number, word);
+        };
+        if is(word, b"cpu") {
+            return self.next_cpu(alloc, number, words_of(text));
+        }
+        let Some((x, rest)) = cut_name(rest) else {
+            return Err(Fault::Refused(Cause::BadLine));
+        };
+        let Some(rest) = rest else {
+            return self.step_of_two(number, word, x);
+        };
+        let (y, rest) = cut(rest);
+        let Some(rest) = rest else {
+            return self.step_of_three(number, word, x, y);
+        };
+        match cut(rest) {
+            (v, None) => self.step_of_four(number, word, x, y, v),
+            (_, Some(_)) => Err(Fault::Refused(Cause::BadLine)),
+        }
+    }
+
     /// The form of a line, with what is wrong with its numbers.
     fn form(&self, text: &'a [u8]) -> Option<(Line<'a>, Mark)>
-        requires { IsReading self.now }
+        requires sound { IsReading self.now }
+        requires place { self.now.place ≢ Place.Steps }
         ensures given { found_as line_as result ≡ line_at self.now.place (so_far self.now) (all_words text.now) }
         ensures fits { FoundFits self.now result }
     {
@@ -298,13 +500,23 @@ impl<'a> Reader<'a> {
         match self.place {
             Place::Header { at } => header_line(at, words_of(text)),
             Place::Types => line_of_types(text),
-            Place::Steps => {
-                let next = self.before.len() as u32 + 1;
-                line_of_steps(cpus, next, next == cpus, words_of(text))
-            }
+            Place::Steps => None,
             Place::Order => line_of_order(cpus, words_of(text)),
             Place::Ended => None,
         }
+    }
+
+    /// One more line that stands in no section.
+    #[inline(never)]
+    fn other_line(&mut self, alloc: Global, number: u32, text: &'a [u8]) -> Result<(), Fault>
+        requires sound { IsReading self.old }
+        requires place { self.old.place ≢ Place.Steps }
+        requires early { number ≤ 33554432 }
+        ensures takes { Takes result (so_far self.new) (judged (so_far self.old) number (line_at self.old.place (so_far self.old) (all_words text.now))) }
+        ensures sound { OnOk result (IsReading self.new) }
+    {
+        let found = self.form(text);
+        self.judge(alloc, number, found)
     }
 
     /// One more line.
@@ -317,8 +529,10 @@ impl<'a> Reader<'a> {
         if let Place::Ended = self.place {
             return Err(Fault::Refused(Cause::Trailing));
         }
-        let found = self.form(text);
-        self.judge(alloc, number, found)
+        if let Place::Steps = self.place {
+            return self.line_of_steps(alloc, number, text);
+        }
+        self.other_line(alloc, number, text)
     }
 
     fn into_parts(self) -> Result<Parts<'a>, AllocError>

@@ -19,6 +19,7 @@ pub struct Tables<'a> {
 
 impl<'a> Tables<'a> {
     /// What a step line says, by numbers. A name or a type that is new stands behind the others.
+    #[inline(always)]
     pub fn act_of(&mut self, said: Said<'a>) -> Result<Act, AllocError>
         requires few_names { length self.old.names ≤ 1000000 }
         requires few_words { length self.old.words ≤ 1000000 }

@@ -1,9 +1,8 @@
 //! The words of a line, by the bytes that they are made of.
-ghost use Rattle.std.specs.Prelude.{◌≡◌, ◌+◌, ◌≤◌, ◌<◌, ◌^◌, [], ◌∷◌, length, IfSome, MatchOption};
+ghost use Rattle.std.specs.Prelude.{◌≡◌, ◌+◌, ◌≤◌, ◌<◌, ◌^◌, [], ◌∷◌, length, take, slice_index, false, IfNone, IfSome, IsTrue, MatchOption};
 ghost use Rattle.std.specs.List.{list_all};
 ghost use Rattle.kz_model.specs.Tokens.{words_of as all_words, is as is_text, is_small as small, is_digit as digit, is_name_byte as name_byte, is_name as name_form, is_plain as plain, is_run as run_form, number_in as number_within, worse as worse_form};
-ghost use Rattle.kz_bundle.specs.Cut.{AreWords, SpaceAt, HasNoSpace};
-ghost use Rattle.std.specs.Prelude.{IfNone};
+ghost use Rattle.kz_bundle.specs.Cut.{AreWords, SpaceAt, HasNoSpace, AreNameBytes, HasNoName};
 
 use kz_model::Mark;
 use kz_text::read_u64;
@@ -19,6 +18,7 @@ pub enum LineWords<'a> {
     More(&'a [u8]),
 }
 
+#[inline(never)]
 fn first_space(text: &[u8]) -> Option<usize>
     ensures none { IfNone result (HasNoSpace text.now) }
     ensures some { IfSome result (λ at. SpaceAt text.now at) }
@@ -26,11 +26,14 @@ fn first_space(text: &[u8]) -> Option<usize>
     text.iter().position(|byte| *byte == b' ')
 }
 
-/// The first word, and what stands after the space behind it.
+/// The first word, often of one letter, and what stands after the space behind it.
 pub fn cut(text: &[u8]) -> (&[u8], Option<&[u8]>)
     ensures words { MatchOption result.1 (all_words text.now ≡ result.0.now ∷ []) (λ rest. all_words text.now ≡ result.0.now ∷ all_words rest.now) }
     ensures shorter { IfSome result.1 (λ rest. length rest.now < length text.now) }
 {
+    if 1 < text.len() && text[0] != b' ' && text[1] == b' ' {
+        return (&text[..1], Some(&text[2..]));
+    }
     match first_space(text) {
         None => (text, None),
         Some(at) => (&text[..at], Some(&text[at + 1..])),
@@ -88,6 +91,63 @@ fn is_plain(byte: u8) -> bool
     ensures { result ≡ plain byte }
 {
     !(byte == b';' || byte == b'[' || byte == b']' || byte == b'{' || byte == b'}')
+}
+
+/// The first byte that stands in no NAME.
+fn other_byte(text: &[u8]) -> Option<usize>
+    ensures none { IfNone result (AreNameBytes text.now) }
+    ensures some { IfSome result (λ at. (at < length text.now) × AreNameBytes (take at text.now) × (name_byte (slice_index text.now at) ≡ false)) }
+{
+    text.iter().position(|byte| !is_name_byte(*byte))
+}
+
+/// These bytes of names are a NAME.
+fn may_be_name(word: &[u8]) -> bool
+    requires { AreNameBytes word.now }
+    ensures { result ≡ name_form word.now }
+{
+    match word {
+        [] => false,
+        [first, rest @ ..] => is_small(*first) && rest.len() <= 31,
+    }
+}
+
+/// The same of a text with this first byte that stands in no NAME.
+fn cut_name_at(text: &[u8], at: usize) -> Option<(&[u8], Option<&[u8]>)>
+    requires within { at < length text.now }
+    requires before { AreNameBytes (take at text.now) }
+    requires other { name_byte (slice_index text.now at) ≡ false }
+    ensures words { IfSome result (λ found. MatchOption found.1 (all_words text.now ≡ found.0.now ∷ []) (λ rest. all_words text.now ≡ found.0.now ∷ all_words rest.now)) }
+    ensures name { IfSome result (λ found. IsTrue (name_form found.0.now)) }
+    ensures none { IfNone result (HasNoName (all_words text.now)) }
+{
+    if text[at] != b' ' {
+        return None;
+    }
+    let word = &text[..at];
+    if may_be_name(word) {
+        Some((word, Some(&text[at + 1..])))
+    } else {
+        None
+    }
+}
+
+/// The first word, where it is a NAME, and what stands after the space behind it.
+pub fn cut_name(text: &[u8]) -> Option<(&[u8], Option<&[u8]>)>
+    ensures words { IfSome result (λ found. MatchOption found.1 (all_words text.now ≡ found.0.now ∷ []) (λ rest. all_words text.now ≡ found.0.now ∷ all_words rest.now)) }
+    ensures name { IfSome result (λ found. IsTrue (name_form found.0.now)) }
+    ensures none { IfNone result (HasNoName (all_words text.now)) }
+{
+    match other_byte(text) {
+        None => {
+            if may_be_name(text) {
+                Some((text, None))
+            } else {
+                None
+            }
+        }
+        Some(at) => cut_name_at(text, at),
+    }
 }
 
 fn all_name_bytes(word: &[u8]) -> bool

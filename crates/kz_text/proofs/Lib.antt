@@ -1,3 +1,4 @@
 pub mod Cut
 pub mod Spans
 pub mod HexBytes
+pub mod Marked

@@ -4,6 +4,7 @@ ghost use Rattle.std.specs.List.{All};
 ghost use Rattle.kz_text.specs.Lines.{TakesLine, EndsAt};
 
 use std::marker::Model;
+use std::simd::prelude::*;
 
 /// A line without its end, and its number, from 1.
 #[derive(Clone, Copy, Debug)]
@@ -68,8 +69,28 @@ impl<'a> Lines<'a> {
     }
 }
 
-// The place of the first end.
+/// How many bytes are looked at in one go.
+const WIDE: usize = 32;
+
+/// The place of the first end.
 fn end_of_line(bytes: &[u8]) -> Option<usize>
+    ensures none { IfNone result (All (λ byte. byte ≢ 10) bytes.now) }
+    ensures some { IfSome result (λ at. EndsAt bytes.now at) }
+{
+    if WIDE <= bytes.len() {
+        let ends = u8x32::from_slice(bytes)
+            .simd_eq(u8x32::splat(b'\n'))
+            .to_bitmask();
+        if ends != 0 {
+            return Some(ends.trailing_zeros() as usize);
+        }
+    }
+    later_end(bytes)
+}
+
+/// The same, byte by byte.
+#[inline(never)]
+fn later_end(bytes: &[u8]) -> Option<usize>
     ensures none { IfNone result (All (λ byte. byte ≢ 10) bytes.now) }
     ensures some { IfSome result (λ at. EndsAt bytes.now at) }
 {
