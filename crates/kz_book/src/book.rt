@@ -13,7 +13,7 @@ ghost use Rattle.kz_book.specs.Book.{Journal, Keeps, HasRoom, params_of};
 ghost use Rattle.kz_book.specs.Visits.{IsAtVisit, Extends, Settles, visit_of, settled_of, want_at, gives, trims, bound_there, ReadsFew};
 
 use crate::acts::act;
-use kz_model::{Bound, Items, Reply, Room, Step, Visit};
+use kz_model::{Bound, Items, RecentSteps, Reply, Room, Step, Visit};
 use kz_supply::{Pages, Want};
 use kz_zone::{Pair, Zone};
 use std::alloc::{AllocError, Global};
@@ -84,7 +84,7 @@ impl Book {
         &mut self,
         round: u32,
         cpu: u32,
-        recent: &[Step],
+        recent: &RecentSteps,
         pair: &mut Pair,
         bound: &mut Option<Bound>,
         step: &Step,
@@ -123,14 +123,14 @@ impl Book {
         self.visits.push_reserved(Visit {
             round,
             cpu,
-            count: recent.len() as u32 + 1,
+            count: recent.len() + 1,
             settled: false,
         });
         reply
     }
 
     /// Writes a CPU's late steps down, which needed no visit, as a settled visit.
-    pub fn settle(&mut self, round: u32, cpu: u32, recent: &[Step])
+    pub fn settle(&mut self, round: u32, cpu: u32, recent: &RecentSteps)
         requires cpu { cpu < (params_of self.old).cpus }
         requires some { 0 < length recent.now }
         requires at { (j : Journal) × Keeps self.old j × NeedNone (params_of self.old) (own_of j.made.end cpu) recent.now }
@@ -142,7 +142,7 @@ impl Book {
         self.visits.push_reserved(Visit {
             round,
             cpu,
-            count: recent.len() as u32,
+            count: recent.len(),
             settled: true,
         });
     }

@@ -6,7 +6,7 @@ ghost use Rattle.kz_zone.specs.Room.{IsFit};
 ghost use Rattle.kz_book.specs.Visits.{gives, ReadsFew};
 
 use crate::Book;
-use kz_model::{Block, Items, Reply, Room, Seed, Step, Visit, ZoneParams};
+use kz_model::{Block, Items, RecentSteps, Reply, Room, Seed, Step, Visit, ZoneParams};
 use kz_supply::{SoloPages, Supply, Want};
 use kz_zone::Pair;
 use std::alloc::{AllocError, Global};
@@ -51,7 +51,8 @@ fn first(alloc: Global, step: &Step) -> Result<(Reply, Book), Fail>
     let mut bound = None;
     let mut supply = Supply::new(alloc, 8, 16, 8)?;
     let mut pages = SoloPages::new(&mut supply, &room.params);
-    let reply = book.visit(0, 0, &[], &mut pair, &mut bound, step, &mut pages);
+    let recent = RecentSteps::new();
+    let reply = book.visit(0, 0, &recent, &mut pair, &mut bound, step, &mut pages);
     Ok((reply, book))
 }
 

@@ -1,5 +1,6 @@
 -- What a CPU has of its zones after a step on one of them.
 use Rattle.std.proofs.Common.{◌≡◌, ◌≢◌, ℕ, ◌<◌, ◌==◌, Bool, true, false, if◌then◌else◌, List, ◌++◌, length, take, drop, slice_index_or, slice_set, Option, None, Some, refl, ap, sym, ◌∙◌, subst, arith}
+use Rattle.std.specs.Option.{unwrap_or}
 use Rattle.std.proofs.Math.Seq.{take-append_seam}
 use Rattle.std.proofs.lemmas.List.{get_or-set_same, get_or-set_other, length-set}
 use Rattle.kz_model.specs.declared.step.Bound.{Bound}
@@ -9,7 +10,7 @@ use Rattle.kz_model.specs.Zone.{Own, bound_of}
 use Rattle.kz_book.specs.Visits.{bound_there, has_name}
 use Rattle.kz_cpu.specs.declared.binding.Binding.{Binding}
 use Rattle.kz_cpu.specs.Cpu.{Cpu, Cache, Has, IsTagged, IsOnZone, IsElsewhere, no_cache, cache_at, binding_at, bound_in}
-use Rattle.kz_cpu.specs.Local.{Brings, bound_by, tagged, rebound}
+use Rattle.kz_cpu.specs.Local.{Brings, bound_by, named_by, tagged, rebound}
 use Rattle.kz_cpu.proofs.OnlyItsName.{OnlyNames}
 
 -- ---- one binding
@@ -30,6 +31,11 @@ none_there zone other (Some binding) ne h = let differs : (binding.zone == other
 is_tagged : (zone : ℕ) (bound : Option Bound) → IsTagged zone (tagged zone bound)
 is_tagged zone None = tt
 is_tagged zone (Some bound) = refl
+
+-- a binding of this zone is the one that a step on it makes
+pub tagged_again : (zone : ℕ) (b : Option Binding) → IsTagged zone b → tagged zone (bound_by b) ≡ b
+tagged_again zone None h = refl
+tagged_again zone (Some binding) h = ap (λ (z : ℕ). Some (record { bound = binding.bound; zone = z })) (sym h)
 
 -- ---- all bindings
 
@@ -57,6 +63,19 @@ length-rebound zone step bound bindings =
       | true ↦ length-set bindings (name_of step) (tagged zone bound)
       | false ↦ refl
     ]
+
+-- a step whose name is found has one
+pub named : (step : Step) (name : ℕ) → named_by step ≡ Some name → (has_name step ≡ true) × (name ≡ name_of step)
+named step name e =
+    elim (has_name step) as (λ b. has_name step ≡ b → (if b then Some (name_of step) else None) ≡ Some name → (has_name step ≡ true) × (name ≡ name_of step)) [
+      | true ↦ λ has same. (has, ap (λ (o : Option ℕ). unwrap_or o 0) (sym same))
+      | false ↦ λ has same. absurd (cc)
+    ] refl e
+
+-- the bindings with the one of the step's name written over
+pub bindings_written : (zone : ℕ) (step : Step) (b : Option Binding) (bindings : List (Option Binding)) → has_name step ≡ true → IsTagged zone b → slice_set bindings (name_of step) b ≡ rebound zone step (bound_by b) bindings
+bindings_written zone step b bindings e t =
+    sym (ap (λ (named : Bool). if named then slice_set bindings (name_of step) (tagged zone (bound_by b)) else bindings) e ∙ ap (λ (b : Option Binding). slice_set bindings (name_of step) b) (tagged_again zone b t))
 
 -- the bindings that were written over all of those that there were
 pub bindings_now : (zone : ℕ) (step : Step) (bound : Option Bound) (n : ℕ) (old seen new : List (Option Binding)) → n ≡ length old → seen ≡ old → new ≡ rebound zone step bound seen → take n (new ++ drop (length new) old) ≡ rebound zone step bound old

@@ -1,6 +1,6 @@
 -- The CPU's own answers, by what its stack serves.
 use Rattle.std.proofs.Common.{◌≡◌, ℕ, ◌&&◌, Bool, true, false, not, nat_lt, List, [], ◌∷◌, ◌++◌, length, Option, None, Some, refl, ap, sym, ◌∙◌, subst}
-use Rattle.std.specs.Option.{IfSome, option_map_or, is_some, is_none}
+use Rattle.std.specs.Option.{IfSome, option_map, option_map_or, is_some, is_none}
 use Rattle.kz_model.specs.declared.record.ZoneParams.{ZoneParams}
 use Rattle.kz_model.specs.declared.step.Block.{Block}
 use Rattle.kz_model.specs.declared.step.Bound.{Bound}
@@ -13,7 +13,9 @@ use Rattle.kz_model.specs.Rules.{newest, below_newest, needs_visit, is_served_by
 use Rattle.kz_model.specs.Zone.{Own, bound_of, bind}
 use Rattle.kz_book.proofs.Effects.{bound_last}
 use Rattle.kz_book.specs.Visits.{bound_there}
+use Rattle.kz_cpu.specs.declared.own_reply.OwnReply.{OwnReply}
 use Rattle.kz_cpu.specs.Local.{Brings, IsAnswer}
+use Rattle.kz_cpu.specs.OwnReply.{reply_meant}
 
 -- a step without a name is refused by nothing that its CPU has
 pub here_same : (p : ZoneParams) (own : Own) (step : Step) → refused_here p (bound_at own step) step ≡ refused_here p (bound_there own step) step
@@ -60,6 +62,15 @@ answer_served p own step stack left bound now result here b s =
 pub if_some : (result : Option Reply) (P Q : Reply → Type 0) → ((r : Reply) → P r → Q r) → IfSome result P → IfSome result Q
 if_some None P Q f h = h
 if_some (Some r) P Q f h = f r h
+
+-- what holds of the CPU's own reply, of the reply that it stands for
+pub if_meant : (result : Option OwnReply) (P : OwnReply → Type 0) (Q : Reply → Type 0) → ((r : OwnReply) → P r → Q (reply_meant r)) → IfSome result P → IfSome (option_map reply_meant result) Q
+if_meant None P Q f h = h
+if_meant (Some r) P Q f h = f r h
+
+pub meant_is_some : (result : Option OwnReply) → is_some (option_map reply_meant result) ≡ is_some result
+meant_is_some None = refl
+meant_is_some (Some r) = refl
 
 -- an allocation from a stack
 pub record Allocates (stack left : List Block) (now : Option Bound) (result : Option Reply) : Type 0 where

@@ -1,3 +1,4 @@
+pub mod OwnReply
 pub mod Cpu
 pub mod Caught
 pub mod Local

@@ -1,14 +1,18 @@
 //! What a CPU keeps of one zone.
-ghost use Rattle.std.specs.Prelude.{◌≡◌, ◌+◌, ◌*◌, ◌<◌, ◌≤◌, ◌++◌, [], ◌∷◌, true, false, length, nat_lt, take, drop, Some, is_some, IfOk, IfSome, IfNone, is_none, vec_len, vec_capacity};
+ghost use Rattle.std.specs.Prelude.{ℕ, ◌≡◌, ◌+◌, ◌*◌, ◌<◌, ◌≤◌, ◌++◌, [], ◌∷◌, true, false, length, nat_lt, take, drop, Some, is_some, IfOk, IfSome, IfNone, is_none, vec_len, vec_capacity};
+ghost use Rattle.std.specs.Option.{option_map};
 ghost use Rattle.kz_model.specs.Rules.{newest, below_newest, block_of};
 ghost use Rattle.kz_model.specs.Zone.{Own};
 ghost use Rattle.kz_zone.specs.Room.{IsFit};
-ghost use Rattle.kz_cpu.specs.Cpu.{opened_cache};
-ghost use Rattle.kz_cpu.specs.Local.{Brings, IsAnswer};
+ghost use Rattle.kz_cpu.specs.Cpu.{opened_cache, IsTagged};
+ghost use Rattle.kz_cpu.specs.OwnReply.{reply_meant};
+ghost use Rattle.kz_cpu.specs.Local.{Brings, IsAnswer, bound_by};
 
+use crate::Binding;
+use crate::own_reply::OwnReply;
 use crate::refusals::refused;
 use kz_book::Book;
-use kz_model::{Bound, Reply, Room, Step, ZoneParams};
+use kz_model::{Bound, RecentSteps, Room, Step, ZoneParams};
 use kz_zone::Pair;
 use std::alloc::{AllocError, Global};
 use std::marker::Model;
@@ -22,7 +26,7 @@ pub struct Cache {
     pub most_steps: u32,
     pub most_chunks: u32,
     pub pair: Pair,
-    pub recent: Vec<Step>,
+    pub recent: RecentSteps,
     pub bases: Vec<u32>,
 }
 
@@ -33,67 +37,72 @@ impl Model for Cache {
 
     ghost Value = { Seen };
 
-    ghost view = { λ k. record { params = k.params; most_steps = k.most_steps; most_chunks = k.most_chunks; pair = k.pair; recent = k.recent.items; bases = k.bases.items } };
+    ghost view = { λ k. record { params = k.params; most_steps = k.most_steps; most_chunks = k.most_chunks; pair = k.pair; recent = k.recent; bases = k.bases.items } };
 
-    ghost invariant = { λ k. IsRoomy k.pair.magazine k.params.magazine k.most_steps k.most_chunks (vec_capacity k.recent) (vec_len k.bases) (vec_capacity k.bases) };
+    ghost invariant = { λ k. IsRoomy k.pair.magazine k.params.magazine k.most_chunks (vec_len k.bases) (vec_capacity k.bases) };
 }
 
 /// Takes the newest block of a stack for a name, if there is one.
-fn allocate(pair: &mut Pair, bound: &mut Option<Bound>) -> Option<Reply>
+fn allocate(pair: &mut Pair, zone: u32, binding: &mut Option<Binding>) -> Option<OwnReply>
     ensures some { is_some result ≡ nat_lt 0 (length pair.old.blocks) }
-    ensures reply { IfSome result (λ reply. reply ≡ Reply.Block (newest pair.old.blocks)) }
+    ensures reply { IfSome result (λ reply. reply ≡ OwnReply.Block (newest pair.old.blocks)) }
     ensures stack { IfSome result (λ reply. pair.new ≡ record pair.old { blocks = below_newest pair.old.blocks }) }
-    ensures bound { IfSome result (λ reply. bound.new ≡ Some (record { block = newest pair.old.blocks; held = true })) }
-    ensures none { IfNone result ((pair.new ≡ pair.old) × (bound.new ≡ bound.old)) }
+    ensures bound { IfSome result (λ reply. bound_by binding.new ≡ Some (record { block = newest pair.old.blocks; held = true })) }
+    ensures tagged { IfSome result (λ reply. IsTagged zone binding.new) }
+    ensures none { IfNone result ((pair.new ≡ pair.old) × (binding.new ≡ binding.old)) }
 {
     let block = pair.pop()?;
-    *bound = Some(Bound { block, held: true });
-    Some(Reply::Block { block })
+    let bound = Bound { block, held: true };
+    *binding = Some(Binding { bound, zone });
+    Some(OwnReply::Block { block })
 }
 
 /// Puts the block of a held name onto a stack, if there is room.
-fn free(pair: &mut Pair, magazine: u32, bound: &mut Option<Bound>) -> Option<Reply>
-    requires there { is_none bound.old ≡ false }
+fn free(pair: &mut Pair, magazine: u32, binding: &mut Option<Binding>) -> Option<OwnReply>
+    requires there { is_none (bound_by binding.old) ≡ false }
     requires same_magazine { pair.old.magazine ≡ magazine }
     requires few { magazine ≤ 32 }
     ensures some { is_some result ≡ nat_lt (length pair.old.blocks) (2 * magazine) }
-    ensures reply { IfSome result (λ reply. reply ≡ Reply.Done) }
-    ensures stack { IfSome result (λ reply. pair.new ≡ record pair.old { blocks = pair.old.blocks ++ block_of bound.old ∷ [] }) }
-    ensures bound { IfSome result (λ reply. bound.new ≡ Some (record { block = block_of bound.old; held = false })) }
-    ensures none { IfNone result ((pair.new ≡ pair.old) × (bound.new ≡ bound.old)) }
+    ensures reply { IfSome result (λ reply. reply ≡ OwnReply.Done) }
+    ensures stack { IfSome result (λ reply. pair.new ≡ record pair.old { blocks = pair.old.blocks ++ block_of (bound_by binding.old) ∷ [] }) }
+    ensures bound { IfSome result (λ reply. bound_by binding.new ≡ Some (record { block = block_of (bound_by binding.old); held = false })) }
+    ensures tagged { (zone : ℕ) → IsTagged zone binding.old → IsTagged zone binding.new }
+    ensures none { IfNone result ((pair.new ≡ pair.old) × (binding.new ≡ binding.old)) }
 {
     if pair.len() >= 2 * magazine {
         return None;
     }
-    match *bound {
-        Some(Bound { block, .. }) => {
-            let _ = pair.push(block);
-            *bound = Some(Bound { block, held: false });
-            Some(Reply::Done)
+    match binding {
+        Some(Binding { bound, .. }) => {
+            let _ = pair.push(bound.block);
+            bound.held = false;
+            Some(OwnReply::Done)
         }
         None => unreachable!(),
     }
 }
 
-/// The CPU's own answer to a step, unless the step needs a visit.
+/// The CPU's own answer to a step on a zone, unless the step needs a visit. `binding` is that of the step's name.
 fn answer(
     params: &ZoneParams,
     pair: &mut Pair,
-    bound: &mut Option<Bound>,
+    zone: u32,
+    binding: &mut Option<Binding>,
     step: &Step,
-) -> Option<Reply>
+) -> Option<OwnReply>
     requires same_magazine { pair.old.magazine ≡ params.now.magazine }
     requires few { params.now.magazine ≤ 32 }
-    ensures answers { (own : Own) → Brings own step.now pair.old.blocks bound.old → IsAnswer params.now own step.now result pair.new.blocks bound.new }
-    ensures none { IfNone result ((pair.new ≡ pair.old) × (bound.new ≡ bound.old)) }
+    ensures answers { (own : Own) → Brings own step.now pair.old.blocks (bound_by binding.old) → IsAnswer params.now own step.now (option_map reply_meant result) pair.new.blocks (bound_by binding.new) }
+    ensures none { IfNone result ((pair.new ≡ pair.old) × (binding.new ≡ binding.old)) }
+    ensures tagged { IsTagged zone binding.old → IsTagged zone binding.new }
     ensures magazine { pair.new.magazine ≡ pair.old.magazine }
 {
-    if let Some(reply) = refused(params, *bound, step) {
+    if let Some(reply) = refused(params, binding, step) {
         return Some(reply);
     }
     match step {
-        Step::Alloc { .. } => allocate(pair, bound),
-        Step::Free { .. } => free(pair, params.magazine, bound),
+        Step::Alloc { .. } => allocate(pair, zone, binding),
+        Step::Free { .. } => free(pair, params.magazine, binding),
         _ => None,
     }
 }
@@ -125,21 +134,27 @@ impl Cache {
             most_steps,
             most_chunks: room.chunks,
             pair: Pair::new(alloc, room.params.magazine)?,
-            recent: Vec::with_capacity(alloc, most_steps as usize)?,
+            recent: RecentSteps::new(),
             bases: Vec::with_capacity(alloc, room.chunks as usize)?,
         })
     }
 
-    /// Does a step by itself, unless it needs a visit.
-    pub fn local(&mut self, bound: &mut Option<Bound>, step: &Step) -> Option<Reply>
+    /// Does a step on its zone by itself, unless it needs a visit. `binding` is that of the step's name.
+    pub fn local(
+        &mut self,
+        zone: u32,
+        binding: &mut Option<Binding>,
+        step: &Step,
+    ) -> Option<OwnReply>
         requires { length self.old.recent < self.old.most_steps }
-        ensures answers { (own : Own) → Brings own step.now self.old.pair.blocks bound.old → IsAnswer self.old.params own step.now result self.new.pair.blocks bound.new }
-        ensures none { IfNone result ((self.new ≡ self.old) × (bound.new ≡ bound.old)) }
+        ensures answers { (own : Own) → Brings own step.now self.old.pair.blocks (bound_by binding.old) → IsAnswer self.old.params own step.now (option_map reply_meant result) self.new.pair.blocks (bound_by binding.new) }
+        ensures none { IfNone result ((self.new ≡ self.old) × (binding.new ≡ binding.old)) }
+        ensures tagged { IsTagged zone binding.old → IsTagged zone binding.new }
         ensures magazine { self.new.pair.magazine ≡ self.old.pair.magazine }
         ensures kept { IfSome result (λ reply. self.new ≡ record self.old { pair = self.new.pair; recent = self.old.recent ++ step.now ∷ [] }) }
     {
-        let reply = answer(&self.params, &mut self.pair, bound, step)?;
-        self.recent.push_reserved(step.copy());
+        let reply = answer(&self.params, &mut self.pair, zone, binding, step)?;
+        self.recent.push(step);
         Some(reply)
     }
 }

@@ -132,10 +132,10 @@ impl Cpu {
         ensures elsewhere { IsElsewhere self.old self.new zone step.now }
         ensures knows { KnowsSame (cache_at self.old zone) (cache_at self.new zone) }
     {
-        let mut bound = bound_by_name(&self.bindings, step);
-        let reply = self.caches[zone as usize].local(&mut bound, step)?;
-        bind(&mut self.bindings, zone, step, bound);
-        Some(reply)
+        let name = name_of(step)?;
+        let binding = &mut self.bindings[name as usize];
+        let own = self.caches[zone as usize].local(zone, binding, step)?;
+        Some(own.reply())
     }
 
     /// Does a step that needs a visit, in one visit that carries the recent steps too.

@@ -4,6 +4,7 @@
 mod binding;
 mod cache;
 mod cpu;
+mod own_reply;
 mod refusals;
 #[cfg(test)]
 mod tests;

@@ -1,80 +1,71 @@
 //! The refusals that a CPU answers from what it has itself.
 ghost use Rattle.std.specs.Prelude.{◌≡◌, ◌+◌, nat_lt, not, is_none};
-ghost use Rattle.kz_model.specs.Rules.{is_held as held, other_zone, refused_if, refused_here};
+ghost use Rattle.std.specs.Option.{option_map};
+ghost use Rattle.kz_model.specs.declared.step.Reply.TheVariants.{NoName, NameBusy, NotHeld, OutOfBlock};
+ghost use Rattle.kz_model.specs.Rules.{is_held as held, other_zone, refused_if, else_refused, refused_here};
+ghost use Rattle.kz_cpu.specs.Local.{bound_by};
+ghost use Rattle.kz_cpu.specs.OwnReply.{reply_meant};
 
-use kz_model::{Bound, Reply, Step, ZoneParams};
+use crate::Binding;
+use crate::own_reply::OwnReply;
+use kz_model::{Step, ZoneParams};
 
-fn is_held(bound: Option<Bound>) -> bool
-    ensures { result ≡ held bound }
+fn is_held(binding: &Option<Binding>) -> bool
+    ensures { result ≡ held (bound_by binding.now) }
 {
-    match bound {
-        Some(bound) => bound.held,
+    match binding {
+        Some(binding) => binding.bound.held,
         None => false,
     }
 }
 
-fn busy(bound: Option<Bound>) -> Option<Reply>
-    ensures { result ≡ refused_if (held bound) Reply.NameBusy }
+/// Where the name has to be free.
+fn busy(binding: &Option<Binding>) -> Option<OwnReply>
+    ensures { option_map reply_meant result ≡ refused_if (held (bound_by binding.now)) NameBusy }
 {
-    if is_held(bound) {
-        return Some(Reply::NameBusy);
-    }
-    None
-}
-
-fn unnamed(bound: Option<Bound>) -> Option<Reply>
-    ensures { result ≡ refused_if (is_none bound) Reply.NoName }
-{
-    match bound {
-        Some(_) => None,
-        None => Some(Reply::NoName),
+    if is_held(binding) {
+        Some(OwnReply::NameBusy)
+    } else {
+        None
     }
 }
 
-fn wrong_zone(owner: u32, asked: Option<u32>) -> Option<Reply>
-    ensures { result ≡ other_zone owner asked }
+/// Where the name has to hold a block of this zone.
+fn not_held(owner: u32, asked: Option<u32>, binding: &Option<Binding>) -> Option<OwnReply>
+    ensures { option_map reply_meant result ≡ else_refused (refused_if (is_none (bound_by binding.now)) NoName) (else_refused (other_zone owner asked) (refused_if (not (held (bound_by binding.now))) NotHeld)) }
 {
-    match asked {
-        Some(asked) if asked != owner => Some(Reply::WrongZone { asked, owner }),
+    match (binding, asked) {
+        (None, _) => Some(OwnReply::NoName),
+        (_, Some(asked)) if asked != owner => Some(OwnReply::WrongZone { asked, owner }),
+        (Some(binding), _) if !binding.bound.held => Some(OwnReply::NotHeld),
         _ => None,
     }
 }
 
-fn not_held(bound: Option<Bound>) -> Option<Reply>
-    ensures { result ≡ refused_if (not (held bound)) Reply.NotHeld }
+/// Where the name has to have a block, and these bytes have to lie in it.
+fn outside(element: u32, binding: &Option<Binding>, off: u32, len: usize) -> Option<OwnReply>
+    ensures { option_map reply_meant result ≡ else_refused (refused_if (is_none (bound_by binding.now)) NoName) (refused_if (nat_lt element (off + len)) OutOfBlock) }
 {
-    if is_held(bound) {
-        return None;
+    if binding.is_none() {
+        Some(OwnReply::NoName)
+    } else if off > element || len > (element - off) as usize {
+        Some(OwnReply::OutOfBlock)
+    } else {
+        None
     }
-    Some(Reply::NotHeld)
-}
-
-fn outside(element: usize, off: usize, len: usize) -> Option<Reply>
-    ensures { result ≡ refused_if (nat_lt element (off + len)) Reply.OutOfBlock }
-{
-    if off <= element && len <= element - off {
-        return None;
-    }
-    Some(Reply::OutOfBlock)
 }
 
 /// The first of the refusals that the CPU can tell, if one holds.
-pub fn refused(params: &ZoneParams, bound: Option<Bound>, step: &Step) -> Option<Reply>
-    ensures { result ≡ refused_here params.now bound step.now }
+pub fn refused(params: &ZoneParams, binding: &Option<Binding>, step: &Step) -> Option<OwnReply>
+    ensures { option_map reply_meant result ≡ refused_here params.now (bound_by binding.now) step.now }
 {
     match step {
-        Step::Alloc { .. } | Step::AllocZero { .. } | Step::Take { .. } => busy(bound),
-        Step::Free { zone, .. } => {
-            let elsewhere = wrong_zone(params.zone, *zone);
-            unnamed(bound).or(elsewhere).or(not_held(bound))
-        }
-        Step::Give { .. } => unnamed(bound).or(not_held(bound)),
-        Step::Read { off, len, .. } => {
-            unnamed(bound).or(outside(params.element as usize, *off as usize, *len as usize))
-        }
+        Step::Alloc { .. } | Step::AllocZero { .. } | Step::Take { .. } => busy(binding),
+        Step::Free { zone, .. } => not_held(params.zone, *zone, binding),
+        Step::Give { .. } => not_held(params.zone, None, binding),
+        Step::Read { off, len, .. } => outside(params.element, binding, *off, *len as usize),
         Step::Write { off, bytes, .. } => {
-            let len = bytes.as_slice().len();
-            unnamed(bound).or(outside(params.element as usize, *off as usize, len))
+            outside(params.element, binding, *off, bytes.as_slice().len())
         }
         Step::Flush | Step::Trim => None,
     }

@@ -14,7 +14,8 @@ use Rattle.kz_supply.specs.Supply.{Supply}
 use Rattle.kz_book.specs.Book.{Book, Journal, Keeps}
 use Rattle.kz_cpu.specs.Cpu.{Cpu}
 use Rattle.kz_cpu.specs.Caught.{IsCaughtUp}
-use Rattle.kz_machine.specs.Blank.{Replies, no_replies}
+use Rattle.kz_model.specs.Replies.{ReplySheet}
+use Rattle.kz_machine.specs.Blank.{no_replies}
 use Rattle.kz_machine.specs.Looks.{no_cpu, no_book, cpu_at, book_at}
 use Rattle.kz_machine.specs.Machine.{Machine, replies_at}
 use Rattle.kz_machine.specs.Stands.{IsAt, IsTurn}
@@ -34,7 +35,7 @@ module _ (m : Machine) (cpu zone : ℕ) (step : Step) (b : Bundle) (plan : Plan)
   within_rooms = subst (λ n. zone < n) (sym (ap (λ (l : List Room). length l) at.rooms ∙ rooms_long b plan)) (in_zones b plan m s cpu zone step at turn)
 
   pub within_replies : cpu < length m.replies
-  within_replies = subst (λ n. cpu < n) (sym (sym (length-map m.replies (λ (r : Replies). r.items)) ∙ ap (λ (l : List (List Reply)). length l) at.replies ∙ turn.sound.cpus)) (is_cpu b plan m s cpu zone step at turn)
+  within_replies = subst (λ n. cpu < n) (sym (sym (length-map m.replies (λ (r : ReplySheet). r.items)) ∙ ap (λ (l : List (List Reply)). length l) at.replies ∙ turn.sound.cpus)) (is_cpu b plan m s cpu zone step at turn)
 
   module _ (c : Cpu) (book : Book) (room : Room) (is_c : c ≡ slice_index_or m.cpus cpu c) (is_book : book ≡ slice_index_or m.books zone book) (is_room : room ≡ slice_index_or m.rooms zone room) where
     cpu_is : cpu_at m.cpus cpu ≡ c
@@ -73,15 +74,15 @@ module _ (m : Machine) (cpu zone : ℕ) (step : Step) (b : Bundle) (plan : Plan)
           (does j (subst (λ (book : Book). Keeps book j) book_is (at.zones zone there-in).keeps)
           (subst (λ (p : ZoneParams). IsCaughtUp c p.zone j) params_are (subst (λ (c : Cpu). IsCaughtUp c zone j) cpu_is ((at.zones zone there-in).caught cpu (is_cpu b plan m s cpu zone step at turn)))))))
 
-      module _ (said told : Replies) (is_said : said ≡ slice_index_or m.replies cpu said) (items : told.items ≡ said.items ++ reply ∷ []) (more : said.room ≤ told.room) where
+      module _ (said told : ReplySheet) (is_said : said ≡ slice_index_or m.replies cpu said) (items : told.items ≡ said.items ++ reply ∷ []) (more : said.room ≤ told.room) where
         said_is : replies_at m.replies cpu ≡ said
         said_is = get_or_default m.replies cpu no_replies said within_replies ∙ sym is_said
 
         items_are : told.items ≡ (replies_at m.replies cpu).items ++ reply ∷ []
-        items_are = items ∙ ap (λ (r : Replies). r.items ++ reply ∷ []) (sym said_is)
+        items_are = items ∙ ap (λ (r : ReplySheet). r.items ++ reply ∷ []) (sym said_is)
 
         room_more : (replies_at m.replies cpu).room ≤ told.room
-        room_more = subst (λ (r : Replies). r.room ≤ told.room) (sym said_is) more
+        room_more = subst (λ (r : ReplySheet). r.room ≤ told.room) (sym said_is) more
 
         pub step_plays : IsAt b plan (record m { cpus = slice_set m.cpus cpu d; books = slice_set m.books zone shelf; supply = supply; replies = slice_set m.replies cpu told }) (played b plan s cpu zone step)
         step_plays = step_keeps b plan m s cpu zone step at turn d shelf supply told reply done.0 done.1 done.2 items_are room_more
@@ -90,12 +91,12 @@ module _ (m : Machine) (cpu zone : ℕ) (step : Step) (b : Bundle) (plan : Plan)
         step_replies = reply_is b plan m s cpu zone step at turn d shelf supply told reply done.0 done.1 done.2 items_are room_more
 
   -- there is room for one more reply
-  pub may_reply : (said : Replies) → said ≡ slice_index_or m.replies cpu said → length said.items < said.room
+  pub may_reply : (said : ReplySheet) → said ≡ slice_index_or m.replies cpu said → length said.items < said.room
   may_reply said is =
       let here : replies_at m.replies cpu ≡ said = get_or_default m.replies cpu no_replies said within_replies ∙ sym is in
       let items : said.items ≡ replies_so_far s cpu =
-      ap (λ (r : Replies). r.items) (sym here) ∙ sym (get_or-map (λ (r : Replies). r.items) m.replies cpu no_replies [] within_replies) ∙ ap (λ (l : List (List Reply)). slice_index_or l cpu []) at.replies in
+      ap (λ (r : ReplySheet). r.items) (sym here) ∙ sym (get_or-map (λ (r : ReplySheet). r.items) m.replies cpu no_replies [] within_replies) ∙ ap (λ (l : List (List Reply)). slice_index_or l cpu []) at.replies in
       let place = at.places cpu (is_cpu b plan m s cpu zone step at turn) in
-      let same = ap (λ (r : Replies). r.room) here in
+      let same = ap (λ (r : ReplySheet). r.room) here in
       let some = turn.turn.some in
       omega (arith, ap (λ (l : List Reply). length l) items, place, same, some)

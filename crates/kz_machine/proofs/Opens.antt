@@ -27,7 +27,8 @@ use Rattle.kz_book.specs.Visits.{own_now}
 use Rattle.kz_cpu.specs.declared.binding.Binding.{Binding}
 use Rattle.kz_cpu.specs.Cpu.{Cpu, Cache, Has, IsTagged, no_cache, cache_at, recent_at, bound_in, opened_cache, opened_cpu}
 use Rattle.kz_cpu.specs.Caught.{IsCaughtUp}
-use Rattle.kz_machine.specs.Blank.{Replies, no_replies, most_entries, IsBlankFor}
+use Rattle.kz_model.specs.Replies.{ReplySheet}
+use Rattle.kz_machine.specs.Blank.{no_replies, most_entries, IsBlankFor}
 use Rattle.kz_machine.specs.Looks.{no_cpu, no_room, cpu_at, book_at}
 use Rattle.kz_machine.specs.Machine.{Machine, replies_at}
 use Rattle.kz_machine.specs.Opening.{IsOpened, AreOpened}
@@ -151,7 +152,7 @@ module _ (b : Bundle) (plan : Plan) where
 
   -- ---- the replies
 
-  none_said : (traces : List (List TraceStep)) → map (λ (r : Replies). r.items) (map (λ (trace : List TraceStep). record { room = length trace; items = [] }) traces) ≡ replicate (length traces) []
+  none_said : (traces : List (List TraceStep)) → map (λ (r : ReplySheet). r.items) (map (λ (trace : List TraceStep). record { room = length trace; items = [] }) traces) ≡ replicate (length traces) []
   none_said [] = refl
   none_said (trace ∷ traces) = ap (λ (l : List (List Reply)). [] ∷ l) (none_said traces)
 
@@ -161,16 +162,16 @@ module _ (b : Bundle) (plan : Plan) where
       IsAt b plan m (play_opened b plan)
   opens_at m planned fit cpus books rooms supply replies round blank =
       let traces = planned.is_valid.traces in
-      let said : List TraceStep → Replies = λ trace. record { room = length trace; items = [] } in
+      let said : List TraceStep → ReplySheet = λ trace. record { room = length trace; items = [] } in
       record {
         planned = planned;
         fit = fit;
         round = round;
-        replies = ap (λ (l : List Replies). map (λ r. r.items) l) replies ∙ none_said b.traces ∙ ap (λ n. replicate n []) traces;
+        replies = ap (λ (l : List ReplySheet). map (λ r. r.items) l) replies ∙ none_said b.traces ∙ ap (λ n. replicate n []) traces;
         places = λ cpu lt.
             let here : replies_at m.replies cpu ≡ said (trace_of b cpu) =
-            ap (λ (l : List Replies). replies_at l cpu) replies ∙ get_or-map said b.traces cpu [] no_replies (subst (λ n. cpu < n) (sym traces) lt) in
-            let same = ap (λ (r : Replies). r.room) here in omega arith;
+            ap (λ (l : List ReplySheet). replies_at l cpu) replies ∙ get_or-map said b.traces cpu [] no_replies (subst (λ n. cpu < n) (sym traces) lt) in
+            let same = ap (λ (r : ReplySheet). r.room) here in omega arith;
         supply = supply;
         own_asks = All-nil (λ (entry : SupplyEntry). IsForZone (params_of b plan entry.zone) entry.ask);
         rooms = rooms;

@@ -14,7 +14,8 @@ use Rattle.kz_model.specs.Order.{order_of}
 use Rattle.kz_model.specs.Play.{Play, replies_so_far, line_to_play, play_opened, effect_there, line_played, round_ended, order_played, lines_played, play_run}
 use Rattle.kz_model.specs.PlayedAt.{IsPlayedAt, HasTurn}
 use Rattle.kz_model.proofs.Prefixes.{plays_are_sound, turns_have_lines}
-use Rattle.kz_machine.specs.Blank.{Replies, no_replies}
+use Rattle.kz_model.specs.Replies.{ReplySheet}
+use Rattle.kz_machine.specs.Blank.{no_replies}
 use Rattle.kz_machine.specs.Left.{IsLeft, turns_of, rounds_in}
 use Rattle.kz_machine.specs.Machine.{Machine, replies_at}
 use Rattle.kz_machine.specs.Stands.{IsAt, IsTurn, IsRoundsEnd}
@@ -97,13 +98,13 @@ module _ (b : Bundle) (plan : Plan) (m : Machine) (left : List OrderLine) (is : 
       omega (arith, played, parts, order, round)
 
   replies_long : length m.replies ≡ b.cpus
-  replies_long = sym (length-map m.replies (λ (r : Replies). r.items)) ∙ ap (λ (l : List (List Reply)). length l) is.at.replies ∙ left_sound.sound.cpus
+  replies_long = sym (length-map m.replies (λ (r : ReplySheet). r.items)) ∙ ap (λ (l : List (List Reply)). length l) is.at.replies ∙ left_sound.sound.cpus
 
   pub left_within : (cpu : ℕ) → cpu < b.cpus → cpu < length m.replies
   left_within cpu lt = subst (λ n. cpu < n) (sym replies_long) lt
 
   pub replies_are : (cpu : ℕ) → cpu < b.cpus → (replies_at m.replies cpu).items ≡ replies_so_far now_played cpu
-  replies_are cpu lt = sym (get_or-map (λ (r : Replies). r.items) m.replies cpu no_replies [] (left_within cpu lt)) ∙ ap (λ (l : List (List Reply)). slice_index_or l cpu []) is.at.replies
+  replies_are cpu lt = sym (get_or-map (λ (r : ReplySheet). r.items) m.replies cpu no_replies [] (left_within cpu lt)) ∙ ap (λ (l : List (List Reply)). slice_index_or l cpu []) is.at.replies
 
   pub left_replies : (cpu : ℕ) → cpu < b.cpus → length (replies_at m.replies cpu).items + turns_of cpu left ≡ turns_of cpu (order_of b)
   left_replies cpu lt =

@@ -31,7 +31,8 @@ use Rattle.kz_book.specs.Book.{Book, Journal}
 use Rattle.kz_book.specs.Visits.{own_now, visit_of}
 use Rattle.kz_cpu.specs.Cpu.{Cpu, recent_at}
 use Rattle.kz_cpu.specs.Caught.{IsCaughtUp}
-use Rattle.kz_machine.specs.Blank.{Replies, no_replies, most_entries}
+use Rattle.kz_model.specs.Replies.{ReplySheet}
+use Rattle.kz_machine.specs.Blank.{no_replies, most_entries}
 use Rattle.kz_machine.specs.Looks.{no_cpu, no_book, cpu_at, book_at}
 use Rattle.kz_machine.specs.Machine.{Machine, replies_at}
 use Rattle.kz_machine.specs.Stands.{IsCpuAt, IsZoneAt, IsAt, IsTurn}
@@ -46,7 +47,7 @@ entries_answers zone [] = refl
 entries_answers zone (e ∷ es) = ap (λ l. e.1 ∷ l) (entries_answers zone es)
 
 module _ (b : Bundle) (plan : Plan) (m : Machine) (s : Play) (cpu zone : ℕ) (step : Step) (at : IsAt b plan m s) (turn : IsTurn b plan s cpu zone step)
-    (d : Cpu) (shelf : Book) (supply : Supply) (told : Replies) (reply : Reply) (next : Journal) (exchanges : List Exchange)
+    (d : Cpu) (shelf : Book) (supply : Supply) (told : ReplySheet) (reply : Reply) (next : Journal) (exchanges : List Exchange)
     (does : let in-zones = in_zones b plan m s cpu zone step at turn in
     Does (params_of b plan zone) m.round (side (cpu_at m.cpus cpu) (book_at m.books zone) m.supply) (side d shelf supply) step reply (at.zones zone in-zones).history next exchanges)
     (items : told.items ≡ (replies_at m.replies cpu).items ++ reply ∷ []) (room : (replies_at m.replies cpu).room ≤ told.room) where
@@ -282,26 +283,26 @@ module _ (b : Bundle) (plan : Plan) (m : Machine) (s : Play) (cpu zone : ℕ) (s
 
   -- ---- the replies
 
-  abbrev replies : List Replies
+  abbrev replies : List ReplySheet
   replies = slice_set m.replies cpu told
 
   there-told : cpu < length m.replies
-  there-told = subst (λ n. cpu < n) (sym (sym (length-map m.replies (λ (r : Replies). r.items)) ∙ ap (λ (l : List (List Reply)). length l) at.replies ∙ turn.sound.cpus)) lt
+  there-told = subst (λ n. cpu < n) (sym (sym (length-map m.replies (λ (r : ReplySheet). r.items)) ∙ ap (λ (l : List (List Reply)). length l) at.replies ∙ turn.sound.cpus)) lt
 
   replies_mine : (replies_at m.replies cpu).items ≡ replies_so_far s cpu
-  replies_mine = sym (get_or-map (λ (r : Replies). r.items) m.replies cpu no_replies [] there-told) ∙ ap (λ (l : List (List Reply)). slice_index_or l cpu []) at.replies
+  replies_mine = sym (get_or-map (λ (r : ReplySheet). r.items) m.replies cpu no_replies [] there-told) ∙ ap (λ (l : List (List Reply)). slice_index_or l cpu []) at.replies
 
-  replies_now : map (λ (r : Replies). r.items) replies ≡ t.replies
+  replies_now : map (λ (r : ReplySheet). r.items) replies ≡ t.replies
   replies_now =
-      map-set (λ (r : Replies). r.items) m.replies cpu told
+      map-set (λ (r : ReplySheet). r.items) m.replies cpu told
       ∙ ap (λ (l : List (List Reply)). slice_set l cpu told.items) at.replies
       ∙ ap (λ (l : List Reply). slice_set s.replies cpu l) (items ∙ ap (λ (l : List Reply). l ++ reply ∷ []) replies_mine ∙ ap (λ (r : Reply). replies_so_far s cpu ++ r ∷ []) reply_is)
 
   places_now : (k : ℕ) → k < b.cpus → length (trace_of b k) ≤ (replies_at replies k).room
   places_now k in' =
       mine_or_other (λ k. k < b.cpus → length (trace_of b k) ≤ (replies_at replies k).room) cpu k
-      (λ in'. let is : (replies_at replies cpu).room ≡ told.room = ap (λ (r : Replies). r.room) (get_or-set_same m.replies cpu told no_replies there-told) in let was = at.places cpu in' in omega arith)
-      (λ ne in'. let is : (replies_at replies k).room ≡ (replies_at m.replies k).room = ap (λ (r : Replies). r.room) (get_or-set_other m.replies cpu k told no_replies ne) in let was = at.places k in' in omega arith) in'
+      (λ in'. let is : (replies_at replies cpu).room ≡ told.room = ap (λ (r : ReplySheet). r.room) (get_or-set_same m.replies cpu told no_replies there-told) in let was = at.places cpu in' in omega arith)
+      (λ ne in'. let is : (replies_at replies k).room ≡ (replies_at m.replies k).room = ap (λ (r : ReplySheet). r.room) (get_or-set_other m.replies cpu k told no_replies ne) in let was = at.places k in' in omega arith) in'
 
   -- ---- the machine
 

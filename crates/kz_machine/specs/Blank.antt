@@ -1,16 +1,11 @@
 -- Room for the record of a run, as contracts see it.
 use Rattle.std.specs.Prelude.{ℕ, ◌≡◌, ◌*◌, ◌<◌, ◌≤◌, List, [], length, map, sum, slice_index_or}
 use Rattle.kz_model.specs.declared.record.Room.{Room}
-use Rattle.kz_model.specs.declared.step.Reply.{Reply}
+use Rattle.kz_model.specs.Replies.{ReplySheet}
 use Rattle.kz_book.specs.Book.{Book}
 use Rattle.kz_machine.specs.Looks.{room_at, book_at}
 
--- a CPU's replies so far, and for how many there is room
-pub record Replies : Type 0 where
-  pub room : ℕ
-  pub items : List Reply
-
-abbrev pub no_replies : Replies
+abbrev pub no_replies : ReplySheet
 no_replies = record { room = 0; items = [] }
 
 -- for how many visits of a zone, and for how many of its chunks, there is room

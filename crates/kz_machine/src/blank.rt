@@ -4,50 +4,10 @@ ghost use Rattle.kz_machine.specs.Blank.{IsEnough, IsBlankFor, HasRoomFor, most_
 
 use crate::within::copied_within;
 use kz_book::Book;
-use kz_model::{Items, Record, Reply, Room, SupplyEntry, Visit};
+use kz_model::{Items, Record, Replies, ReplySheet, Room, SupplyEntry, Visit};
 use kz_supply::Supply;
 use std::alloc::{AllocError, Global};
 use std::marker::Model;
-
-/// A CPU's replies so far, with room for all of its lines.
-#[derive(Drop)]
-pub struct Replies {
-    items: Vec<Reply>,
-}
-
-impl Model for Replies {
-    ghost use Rattle.std.specs.Prelude.{vec_capacity};
-    ghost use Rattle.kz_machine.specs.Blank.{Replies as Seen};
-
-    ghost Value = { Seen };
-
-    ghost view = { λ r. record { room = vec_capacity r.items; items = r.items.items } };
-}
-
-impl Replies {
-    /// None so far, of so many.
-    pub fn new(alloc: Global, room: usize) -> Result<Replies, AllocError>
-        ensures { IfOk result (λ replies. replies ≡ record { room = room; items = [] }) }
-    {
-        Ok(Replies {
-            items: Vec::with_capacity(alloc, room)?,
-        })
-    }
-
-    pub fn len(&self) -> usize
-        ensures { result ≡ length self.now.items }
-    {
-        self.items.len()
-    }
-
-    pub fn push(&mut self, reply: Reply)
-        requires { length self.old.items < self.old.room }
-        ensures items { self.new.items ≡ self.old.items ++ reply ∷ [] }
-        ensures room { self.old.room ≤ self.new.room }
-    {
-        self.items.push_reserved(reply);
-    }
-}
 
 /// Room for what a record has of a zone.
 #[derive(Drop)]
@@ -80,14 +40,13 @@ fn marks_of(book: &Book, mut into: Vec<bool>) -> Items<bool>
 }
 
 /// Each CPU's replies.
-fn replies_of(replies: Vec<Replies>, mut into: Vec<Items<Reply>>) -> Items<Items<Reply>>
+fn replies_of(replies: Vec<ReplySheet>, mut into: Vec<Replies>) -> Items<Replies>
     requires empty { into.items ≡ [] }
     requires room { vec_len replies ≤ vec_capacity into }
     ensures { result ≡ map (λ r. r.items) replies.items }
 {
     for of_cpu in replies {
-        let Replies { items } = of_cpu;
-        into.push_reserved(Items::from_vec(items));
+        into.push_reserved(of_cpu.finish());
     }
     Items::from_vec(into)
 }
@@ -121,7 +80,7 @@ fn fill(
 /// A record that is empty, with room for all that a run makes.
 #[derive(Drop)]
 pub struct Blank {
-    replies: Vec<Items<Reply>>,
+    replies: Vec<Replies>,
     visits: Vec<Items<Visit>>,
     mapped: Vec<Items<bool>>,
     sheets: Vec<Sheet>,
@@ -169,7 +128,7 @@ impl Blank {
     }
 
     /// The record of these replies, these zones and this supply.
-    pub fn record(self, replies: Vec<Replies>, books: &[Book], supply: &Supply) -> Record
+    pub fn record(self, replies: Vec<ReplySheet>, books: &[Book], supply: &Supply) -> Record
         requires replies { vec_len replies ≤ self.cpus }
         requires visits { length books.now ≤ self.visits }
         requires mapped { length books.now ≤ self.mapped }

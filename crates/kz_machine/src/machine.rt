@@ -8,14 +8,14 @@ ghost use Rattle.kz_model.specs.PlayedAt.{IsPlaySound};
 ghost use Rattle.kz_machine.specs.Machine.{replies_at};
 ghost use Rattle.kz_machine.specs.Stands.{IsAt, IsTurn, IsRoundsEnd};
 
-use crate::blank::{Blank, Replies};
+use crate::blank::Blank;
 use crate::opening::{books_of, cpus_of, entries_of, replies_of};
 use crate::settling::settle;
 use crate::stepping::one_step;
 use kz_book::Book;
 use kz_bundle::rooms;
 use kz_cpu::Cpu;
-use kz_model::{Bundle, Plan, Record, Reply, Room, Step};
+use kz_model::{Bundle, Plan, Record, Reply, ReplySheet, Room, Step};
 use kz_plan::plans_are_fit;
 use kz_supply::Supply;
 use std::alloc::{AllocError, Global};
@@ -30,7 +30,7 @@ pub struct Machine {
     books: Vec<Book>,
     rooms: Vec<Room>,
     supply: Supply,
-    replies: Vec<Replies>,
+    replies: Vec<ReplySheet>,
     round: u32,
     blank: Blank,
 }
@@ -78,16 +78,15 @@ impl Machine {
         ensures plays { (b : BundleSeen) (plan : PlanSeen) (s : Play) → IsAt b plan self.old s → IsTurn b plan s cpu zone step.now → IsAt b plan self.new (played b plan s cpu zone step.now) }
         ensures reply { (b : BundleSeen) (plan : PlanSeen) (s : Play) → IsAt b plan self.old s → IsTurn b plan s cpu zone step.now → result ≡ (effect_there b plan s cpu zone step.now).reply }
     {
-        let reply = one_step(
+        one_step(
             &mut self.cpus[cpu as usize],
             &mut self.books[zone as usize],
             &mut self.supply,
             self.round,
             &self.rooms[zone as usize].params,
             step,
-        );
-        self.replies[cpu as usize].push(reply.copy());
-        reply
+            &mut self.replies[cpu as usize],
+        )
     }
 
     /// The end of a round, in which no CPU has a line left: each settles on each zone.

@@ -6,10 +6,9 @@ ghost use Rattle.kz_cpu.specs.Cpu.{opened_cpu};
 ghost use Rattle.kz_machine.specs.Blank.{most_entries};
 ghost use Rattle.kz_machine.specs.Opening.{AreOpened};
 
-use crate::blank::Replies;
 use kz_book::Book;
 use kz_cpu::Cpu;
-use kz_model::{Room, Trace};
+use kz_model::{ReplySheet, Room, Trace};
 use std::alloc::{AllocError, Global};
 
 /// A book for each zone.
@@ -46,12 +45,13 @@ pub fn cpus_of(
 }
 
 /// Room for the replies to each CPU's lines.
-pub fn replies_of(alloc: Global, traces: &[Trace]) -> Result<Vec<Replies>, AllocError>
+pub fn replies_of(alloc: Global, traces: &[Trace]) -> Result<Vec<ReplySheet>, AllocError>
+    requires { All (λ trace. length trace ≤ 1000000) traces.now }
     ensures { IfOk result (λ replies. replies.items ≡ map (λ trace. record { room = length trace; items = [] }) traces.now) }
 {
     let mut replies = Vec::with_capacity(alloc, traces.len())?;
     for trace in traces {
-        replies.push(Replies::new(alloc, trace.len())?)?;
+        replies.push(ReplySheet::new(alloc, trace.len() as u32)?)?;
     }
     Ok(replies)
 }

@@ -1,5 +1,5 @@
 //! A step of a CPU on a zone.
-ghost use Rattle.std.specs.Prelude.{◌≡◌, true, List};
+ghost use Rattle.std.specs.Prelude.{◌≡◌, ◌<◌, ◌++◌, [], ◌∷◌, true, List, length};
 ghost use Rattle.kz_supply.specs.Exchange.{Exchange};
 ghost use Rattle.kz_book.specs.Book.{Journal, Keeps};
 ghost use Rattle.kz_cpu.specs.Caught.{IsCaughtUp};
@@ -7,10 +7,13 @@ ghost use Rattle.kz_machine.specs.Steps.{IsReady, Does, side, needs_here};
 
 use kz_book::Book;
 use kz_cpu::Cpu;
-use kz_model::{Reply, Step, ZoneParams};
+use kz_model::{Reply, ReplySheet, Step, ZoneParams};
 use kz_supply::{SoloPages, Supply};
 
 /// A visit to the zone, in which the supply answers it alone.
+///
+/// It stands out of line, so that a step which needs none pays nothing for it.
+#[inline(never)]
 fn visit(
     cpu: &mut Cpu,
     book: &mut Book,
@@ -28,7 +31,7 @@ fn visit(
     cpu.slow(round, params.zone, step, book, &mut pages)
 }
 
-/// A step on a zone: by the CPU itself, or in a visit where it needs one.
+/// A step on a zone: by the CPU itself, or in a visit where it needs one. Its reply is put down.
 pub fn one_step(
     cpu: &mut Cpu,
     book: &mut Book,
@@ -36,13 +39,25 @@ pub fn one_step(
     round: u32,
     params: &ZoneParams,
     step: &Step,
+    replies: &mut ReplySheet,
 ) -> Reply
-    requires { IsReady params.now (side cpu.old book.old supply.old) step.now }
-    ensures { (j : Journal) → Keeps book.old j → IsCaughtUp cpu.old params.now.zone j →
+    requires ready { IsReady params.now (side cpu.old book.old supply.old) step.now }
+    requires room { length replies.old.items < replies.old.room }
+    ensures does { (j : Journal) → Keeps book.old j → IsCaughtUp cpu.old params.now.zone j →
         (after : Journal) × (exchanges : List Exchange) × Does params.now round (side cpu.old book.old supply.old) (side cpu.new book.new supply.new) step.now result j after exchanges }
+    ensures items { replies.new.items ≡ replies.old.items ++ result ∷ [] }
+    ensures room { replies.new.room ≡ replies.old.room }
 {
+    // Each reply is put down where it is known: the CPU's own never has bytes.
     match cpu.local(params.zone, step) {
-        Some(reply) => reply,
-        None => visit(cpu, book, supply, round, params, step),
+        Some(own) => {
+            replies.push(&own);
+            own
+        }
+        None => {
+            let reply = visit(cpu, book, supply, round, params, step);
+            replies.push(&reply);
+            reply
+        }
     }
 }

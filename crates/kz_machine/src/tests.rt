@@ -42,8 +42,13 @@ fn run(alloc: Global, text: &[u8]) -> Result<Record, Fail>
 }
 
 /// The reply to a CPU's line.
-fn reply_at(record: &Record, cpu: usize, line: usize) -> Option<&Reply> {
-    record.replies.as_slice().get(cpu)?.as_slice().get(line)
+fn reply_at(record: &Record, cpu: usize, line: usize) -> Option<Reply> {
+    let replies = record.replies.as_slice().get(cpu)?;
+    if line < replies.len() {
+        Some(replies.reply(line))
+    } else {
+        None
+    }
 }
 
 /// Whether the record has one zone with these visits, whose one chunk is mapped or not.
@@ -71,8 +76,8 @@ fn visit(round: u32, cpu: u32, count: u32, settled: bool) -> Visit {
 }
 
 /// Whether the reply is an element of the first chunk.
-fn is_block(reply: Option<&Reply>, index: u32) -> bool {
-    matches!(reply, Some(Reply::Block { block }) if *block == Block { chunk: 0, index })
+fn is_block(reply: Option<Reply>, index: u32) -> bool {
+    matches!(&reply, Some(Reply::Block { block }) if *block == Block { chunk: 0, index })
 }
 
 /// The grant of the first chunk.

@@ -30,7 +30,7 @@ invariant_of-self g c =
     let F : Book → Type 0 = λ b. HasRoom b c.args.cpu (length c.args.recent.now + 1) in
     let G : Book → Type 0 = λ b. c.args.cpu < (params_of b).cpus in
     let v : Visit = visit_of c.args.round c.args.cpu c.args.recent.now in
-    rw c.push_reserved.ensures.items (within_push c.self.inside.room c.self.inside.visits.items _ _ v c.self.invariant (omega (arith, c.push_reserved.ensures.capacity)) (subst G (sym c.self.view_is) c.requires.cpu) (omega arith) (subst F (sym c.self.view_is) c.requires.room))
+    rw (c.push_reserved.ensures.items, c.len.ensures) (within_push c.self.inside.room c.self.inside.visits.items _ _ v c.self.invariant (omega (arith, c.push_reserved.ensures.capacity)) (subst G (sym c.self.view_is) c.requires.cpu) (omega arith) (subst F (sym c.self.view_is) c.requires.room))
 
 pub returns-clause-keeps : goal.returns-clause-keeps
 returns-clause-keeps g c =

@@ -19,8 +19,8 @@ returns g c =
     let book = c.args.book.now in
     let p = params_of book in
     let old : Cpu = record { cpu = c.self.inside.cpu; caches = c.self.inside.caches.items; bindings = c.self.inside.bindings.items } in
-    let k : Cache = record { params = c.cache.inside.params; most_steps = c.cache.inside.most_steps; most_chunks = c.cache.inside.most_chunks; pair = c.cache.inside.pair; recent = c.cache.inside.recent.items; bases = c.cache.inside.bases.items } in
-    let after : Cache = record k { pair = c.visit-reply.new.pair; recent = c.clear.new.self.items; bases = c.learn.new.bases.items } in
+    let k : Cache = record { params = c.cache.inside.params; most_steps = c.cache.inside.most_steps; most_chunks = c.cache.inside.most_chunks; pair = c.cache.inside.pair; recent = c.cache.inside.recent; bases = c.cache.inside.bases.items } in
+    let after : Cache = record k { pair = c.visit-reply.new.pair; recent = c.clear.new.self; bases = c.learn.new.bases.items } in
     let bound = c.bound_by_name-bound.result in
     let now = c.visit-reply.new.bound in
     let new : Cpu = record old { caches = slice_set old.caches zone after; bindings = (with_items c.self.inside.bindings c.bind.new.bindings).items } in
@@ -38,11 +38,11 @@ returns g c =
       most_steps = ap (λ (n : Cache). n.most_steps) t.is;
       magazine = c.visit-reply.ensures.magazine ∙ ap (λ (n : Cache). n.pair.magazine) t.is;
     } in
-    let left : IsVisited old new zone step after now = record { changes = ch; recent = c.clear.ensures.items } in
+    let left : IsVisited old new zone step after now = record { changes = ch; recent = c.clear.ensures } in
     let keeps = c.visit-reply.ensures.keeps in
     let made : List Step → Type 0 = λ recent. (j : Journal) → Keeps book j → IsAtVisit p j old.cpu recent k.pair.blocks bound step →
     (next : Journal) × Keeps c.visit-reply.new.self next × Extends p old.cpu j next recent step c.visit-reply.result keeps.0 × (after.pair.blocks ≡ (own_of next.made.end old.cpu).stack) × (now ≡ bound_there (own_of next.made.end old.cpu) step) in
-    let visit : made (recent_at old zone) = subst made (c.deref-2.ensures.value ∙ ap (λ (n : Cache). n.recent) t.is) keeps.3 in
+    let visit : made (recent_at old zone) = subst made (ap (λ (n : Cache). n.recent) t.is) keeps.3 in
     let At : Cpu → Type 0 = λ o. (j : Journal) × Keeps book j × IsCaughtUp o zone j × (needs_visit p (own_now p j o.cpu (recent_at o zone)) step ≡ true) in
     let at = subst At (sym c.self.view_is) c.requires.at in
     let same = subst (λ (o : Cpu). p ≡ (cache_at o zone).params) (sym c.self.view_is) c.requires.same_params in

@@ -1,4 +1,4 @@
-use Rattle.std.proofs.Common.{◌≡◌, All, length, map, [], ap, ap₂, sym, ◌∙◌, subst, arith, List, refl}
+use Rattle.std.proofs.Common.{◌≡◌, ◌≤◌, All, length, map, [], ap, ap₂, sym, ◌∙◌, subst, arith, List, refl}
 use Rattle.std.specs.List.{range_with_len}
 use Rattle.kz_model.specs.declared.record.Room.{Room}
 use Rattle.kz_model.specs.declared.bundle.TraceStep.{TraceStep}
@@ -6,8 +6,10 @@ use Rattle.kz_supply.specs.Supply.{Supply}
 use Rattle.kz_cpu.specs.Cpu.{opened_cpu}
 use Rattle.kz_model.specs.Rooms.{rooms_of}
 use Rattle.kz_zone.specs.Room.{IsFit}
-use Rattle.kz_machine.specs.Blank.{Replies, most_entries, IsBlankFor}
+use Rattle.kz_model.specs.Replies.{ReplySheet}
+use Rattle.kz_machine.specs.Blank.{most_entries, IsBlankFor}
 use Rattle.kz_machine.specs.Opening.{AreOpened}
+use Rattle.kz_model.proofs.TraceRounds.{short_traces}
 use Rattle.kz_machine.proofs.Lines.{all_lines, entries_are}
 use Rattle.kz_machine.proofs.Fit.{rooms_fit, rooms_cpus}
 use Rattle.kz_machine.proofs.Opens.{opens_at}
@@ -34,6 +36,9 @@ pub books_of-requires : goal.books_of-requires
 books_of-requires c =
     subst (λ (rooms : List Room). All IsFit rooms) (sym (c.deref-3.ensures.value ∙ c.in_ok-rooms.ensures)) (rooms_fit c.args.bundle.now c.args.plan.now c.requires.is_valid (c.plans_are_fit.ensures c.args.bundle.now c.args.plan.now c.requires))
 
+pub replies_of-requires : goal.replies_of-requires
+replies_of-requires c = subst (λ (traces : List (List TraceStep)). All (λ trace. length trace ≤ 1000000) traces) (sym c.as_slice.ensures) (short_traces c.args.bundle.now c.requires.is_valid)
+
 pub returns : goal.returns
 returns c =
     let b = c.args.bundle.now in
@@ -46,6 +51,6 @@ returns c =
     (subst (λ (l : List Room). AreOpened l c.in_ok-books_of.field-0.items) (c.deref-3.ensures.value ∙ rooms) c.in_ok-books_of.ensures)
     rooms
     (c.in_ok-new.ensures ∙ ap (λ n. let s : Supply = record { frames = b.frames; pages = b.pages; room = n; log = [] } in s) entries)
-    (c.in_ok-replies_of.ensures ∙ ap (λ (traces : List (List TraceStep)). map (λ trace. let r : Replies = record { room = length trace; items = [] } in r) traces) c.as_slice.ensures)
+    (c.in_ok-replies_of.ensures ∙ ap (λ (traces : List (List TraceStep)). map (λ trace. let r : ReplySheet = record { room = length trace; items = [] } in r) traces) c.as_slice.ensures)
     refl
     (subst (λ (l : List Room). IsBlankFor l b.cpus c.in_ok-new-2.field-0) (c.deref-4.ensures.value ∙ rooms) c.in_ok-new-2.ensures)

@@ -2,7 +2,8 @@ use Rattle.std.proofs.Common.{◌≤◌, ◌∙◌, length, map, List, ap, sym, 
 use Rattle.kz_model.specs.Zone.{Chunk}
 use Rattle.kz_book.specs.Book.{Book}
 use Rattle.kz_machine.specs.declared.machine.Machine.TheView.{view}
-use Rattle.kz_machine.specs.Blank.{Replies, HasRoomFor}
+use Rattle.kz_model.specs.Replies.{ReplySheet}
+use Rattle.kz_machine.specs.Blank.{HasRoomFor}
 use Rattle.kz_machine.proofs.Finishing.{made, visits_fit, mapped_fit, sheets_fit, record_is}
 use Rattle.kz_machine.proofs.Inside.{inside_at}
 use Rattle.kz_machine.proofs.machine.Machine.finish.Goals as goal
@@ -25,5 +26,5 @@ record-requires-clause-sheets c =
 pub returns : goal.returns
 returns c b plan s at sound =
     c.record.ensures
-    ∙ ap (λ (books : List Book). made (map (λ (r : Replies). r.items) c.self.inside.replies.items) (map (λ (book : Book). book.visits) books) (map (λ (book : Book). map (λ (chunk : Chunk). chunk.mapped) book.zone.chunks) books) c.self.inside.supply.log) c.deref.ensures.value
+    ∙ ap (λ (books : List Book). made (map (λ (r : ReplySheet). r.items) c.self.inside.replies.items) (map (λ (book : Book). book.visits) books) (map (λ (book : Book). map (λ (chunk : Chunk). chunk.mapped) book.zone.chunks) books) c.self.inside.supply.log) c.deref.ensures.value
     ∙ record_is (view c.self.inside) b plan s (inside_at c.self.inside _ b plan s c.self.view_is at) sound
