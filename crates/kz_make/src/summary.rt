@@ -7,28 +7,28 @@ ghost use Rattle.kz_make.specs.Telling.{replies_in, IsWithin, AreTotals};
 
 use crate::totals::Totals;
 use crate::write::write_number;
-use kz_model::{Items, Record, Reply};
+use kz_model::{Record, Replies};
 use std::alloc::{AllocError, Global};
 
-fn add_replies(totals: &mut Totals, replies: &[Reply])
+fn add_replies(totals: &mut Totals, replies: &Replies)
     requires few { totals.old.steps + length replies.now < 2 ^ 32 }
     requires within { IsWithin totals.old }
     ensures steps { totals.new.steps ≡ totals.old.steps + length replies.now }
     ensures within { IsWithin totals.new }
     ensures more { (before : List TheReply) → AreTotals totals.old before → AreTotals totals.new (before ++ replies.now) }
 {
-    for reply in replies {
-        totals.add(reply);
+    for at in 0..replies.len() {
+        totals.add(&replies.reply(at));
     }
 }
 
-fn totals_of(all: &[Items<Reply>]) -> Totals
+fn totals_of(all: &[Replies]) -> Totals
     requires { length (replies_in all.now) < 2 ^ 32 }
     ensures { AreTotals result (replies_in all.now) }
 {
     let mut totals = Totals::none();
     for replies in all {
-        add_replies(&mut totals, replies.as_slice());
+        add_replies(&mut totals, replies);
     }
     totals
 }

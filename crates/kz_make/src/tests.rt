@@ -1,6 +1,6 @@
 //! Made bundles against those of two other programs.
 use crate::{make_bundle, summary_text};
-use kz_model::{Block, Items, Record, Reply};
+use kz_model::{Block, Items, Record, Reply, ReplySheet};
 use std::test::Fail;
 
 const FRONT: &[u8] =
@@ -38,18 +38,16 @@ fn greatest_number(rt: HostRuntime) -> Result<(), Fail> {
 fn replies_of_two_cpus(rt: HostRuntime) -> Result<(), Fail> {
     let alloc = rt.alloc();
     let block = Block { chunk: 0, index: 0 };
-    let first = vec![in alloc;
-        Reply::Block { block },
-        Reply::Done,
-        Reply::Trimmed { pages: 3 },
-    ]?;
-    let second = vec![in alloc;
-        Reply::NoSpace { left: 0 },
-        Reply::Block { block },
-        Reply::Trimmed { pages: 2 },
-        Reply::NoFrames { free: 1 },
-    ]?;
-    let replies = vec![in alloc; Items::from_vec(first), Items::from_vec(second)]?;
+    let mut first = ReplySheet::new(alloc, 3)?;
+    first.push(&Reply::Block { block });
+    first.push(&Reply::Done);
+    first.push(&Reply::Trimmed { pages: 3 });
+    let mut second = ReplySheet::new(alloc, 4)?;
+    second.push(&Reply::NoSpace { left: 0 });
+    second.push(&Reply::Block { block });
+    second.push(&Reply::Trimmed { pages: 2 });
+    second.push(&Reply::NoFrames { free: 1 });
+    let replies = vec![in alloc; first.finish(), second.finish()]?;
     let made = Record {
         replies: Items::from_vec(replies),
         visits: Items::from_vec(Vec::new(alloc)),

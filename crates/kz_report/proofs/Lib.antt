@@ -1,4 +1,5 @@
 pub mod BasePages
+pub mod Hexadecimal
 pub mod LineTexts
 pub mod Lookups
 pub mod PlanText

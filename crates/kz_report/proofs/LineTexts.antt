@@ -1,9 +1,9 @@
 -- One piece of a text after another.
-use Rattle.std.proofs.Common.{◌≡◌, ℕ, zero, suc, ◌+◌, ◌-◌, ◌<◌, ◌≤◌, ◌==◌, nat_lt, Bool, true, false, if◌then◌else◌, List, [], ◌∷◌, ◌++◌, length, take, drop, map, slice_index_or, codes, decimal, refl, ap, sym, ◌∙◌, arith, append_assoc}
-use Rattle.std.specs.List.{flat_map}
+use Rattle.std.proofs.Common.{◌≡◌, ℕ, zero, suc, ◌+◌, ◌-◌, ◌<◌, ◌≤◌, ◌==◌, nat_lt, Bool, true, false, if◌then◌else◌, List, [], ◌∷◌, ◌++◌, length, take, drop, map, slice_index_or, codes, ap, sym, ◌∙◌, arith, append_assoc}
 use Rattle.std.proofs.Math.Seq.{drop-cons}
 use Rattle.std.proofs.lemmas.List.{append-nil, drop-drop, drop_all}
 use Rattle.std.proofs.lemmas.Grind.{flat_map-append}
+use Rattle.kz_model.specs.Replies.{no_reply}
 use Rattle.kz_model.specs.declared.bundle.Bundle.{Bundle}
 use Rattle.kz_model.specs.declared.bundle.TraceStep.{TraceStep}
 use Rattle.kz_model.specs.declared.record.Plan.{Plan}
@@ -121,14 +121,14 @@ no_rounds b plan pages trace replies round rounds past =
 -- ---- the line at a place
 
 pub place_on : (b : Bundle) (plan : Plan) (pages : List (List ℕ)) (trace : List TraceStep) (replies : List Reply) (at end : ℕ) (step : TraceStep) (r : Reply) (s t whole : List ℕ) →
-    at < end → end ≤ length trace → length replies ≡ length trace → step ≡ slice_index_or trace at no_step → r ≡ slice_index_or replies at r →
+    at < end → end ≤ length trace → length replies ≡ length trace → step ≡ slice_index_or trace at no_step → r ≡ slice_index_or replies at no_reply →
     s ++ text_of_lines (map (answered_line plan pages) (said b plan (take (end - at) (drop at trace)) (drop at replies))) ≡ whole →
     t ≡ s ++ (answered_line plan pages (record { act = step.act; zone = (addressed b plan step.act).0; reply = r }) ++ codes "\n") →
     t ++ text_of_lines (map (answered_line plan pages) (said b plan (take (end - (at + 1)) (drop (at + 1) trace)) (drop (at + 1) replies))) ≡ whole
 place_on b plan pages trace replies at end step r s t whole lt within long is_step is_reply before written =
     let line : TraceStep → Reply → Answered = λ step r. record { act = step.act; zone = (addressed b plan step.act).0; reply = r } in
-    line_on (said b plan (take (end - at) (drop at trace)) (drop at replies)) (said b plan (take (end - (at + 1)) (drop (at + 1) trace)) (drop (at + 1) replies)) (line step r) (line (slice_index_or trace at no_step) (slice_index_or replies at r)) (answered_line plan pages) s t whole
-    (one_said b plan trace replies at end r lt within long)
+    line_on (said b plan (take (end - at) (drop at trace)) (drop at replies)) (said b plan (take (end - (at + 1)) (drop (at + 1) trace)) (drop (at + 1) replies)) (line step r) (line (slice_index_or trace at no_step) (slice_index_or replies at no_reply)) (answered_line plan pages) s t whole
+    (one_said b plan trace replies at end no_reply lt within long)
     (ap (λ (step : TraceStep). line step r) is_step ∙ ap (λ (r : Reply). line (slice_index_or trace at no_step) r) is_reply)
     before written
 

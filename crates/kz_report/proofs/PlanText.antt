@@ -1,5 +1,5 @@
 -- The lines of a plan, as the code writes them.
-use Rattle.std.proofs.Common.{◌≡◌, ℕ, zero, suc, ◌+◌, ◌<◌, List, [], ◌∷◌, ◌++◌, length, map, take, slice_get, slice_index, slice_index_or, None, codes, decimal, refl, ap, sym, ◌∙◌, arith, append_assoc}
+use Rattle.std.proofs.Common.{◌≡◌, ℕ, ◌+◌, ◌<◌, List, [], ◌∷◌, ◌++◌, length, map, take, slice_index, slice_index_or, codes, decimal, ap, sym, ◌∙◌, arith, append_assoc}
 use Rattle.std.specs.List.{enumerate_from, flat_map, range_with_len}
 use Rattle.std.proofs.lemmas.List.{get_or_default, append-nil, map-append, take_more, length-take}
 use Rattle.std.proofs.lemmas.List.FromFn.{map-range_with_len_more}
@@ -12,7 +12,7 @@ use Rattle.kz_model.specs.Journal.{zone_row}
 use Rattle.kz_model.specs.Report.{type_line, zone_line, zone_name, submap_name, no_type, no_layout}
 use Rattle.kz_model.specs.Text.{text_of_lines}
 use Rattle.kz_model.proofs.TraceRounds.{range_push}
-use Rattle.kz_report.specs.Lines.{type_line_of, numbered_zone_line}
+use Rattle.kz_report.specs.Lines.{type_line_of}
 
 -- ---- a line's pieces, by twelve as a format has them
 

@@ -1,9 +1,8 @@
 -- What a record of a run of a valid bundle gives for its report.
 use Rattle.std.proofs.Common.{◌≡◌, ℕ, zero, suc, ◌+◌, ◌<◌, ◌≤◌, ◌==◌, nat_lt, Bool, true, false, if◌then◌else◌, ◌&&◌, List, [], ◌∷◌, ◌++◌, length, drop, map, slice_index_or, None, All, codes, decimal, refl, ap, sym, ◌∙◌, subst, arith, append_assoc}
-use Rattle.std.specs.List.{filter, flat_map, range_with_len, enumerate_from}
+use Rattle.std.specs.List.{filter, enumerate_from}
 use Rattle.std.proofs.lemmas.List.{get_or_past}
 use Rattle.std.proofs.lemmas.List.Elements.{All-get_or, All-head, All-tail}
-use Rattle.std.proofs.lemmas.List.Sums.{get_or-le-sum_by}
 use Rattle.kz_model.specs.declared.bundle.Bundle.{Bundle}
 use Rattle.kz_model.specs.declared.bundle.TraceStep.{TraceStep}
 use Rattle.kz_model.specs.declared.record.Plan.{Plan}
@@ -12,16 +11,16 @@ use Rattle.kz_model.specs.declared.record.Visit.{Visit}
 use Rattle.kz_model.specs.declared.record.ZoneRow.{ZoneRow}
 use Rattle.kz_model.specs.declared.step.Reply.{Reply}
 use Rattle.kz_model.specs.declared.supply.SupplyEntry.{SupplyEntry}
-use Rattle.kz_model.specs.Journal.{zone_row, trace_of, lines_of_round, steps_among, steps_of, carried}
+use Rattle.kz_model.specs.Journal.{zone_row, trace_of, steps_among, steps_of, carried}
 use Rattle.kz_model.specs.Planned.{IsFitRow}
 use Rattle.kz_model.specs.Recorded.{cpu_answered, cpu_replies}
-use Rattle.kz_model.specs.Report.{Answered, cpu_lines, rounds_lines, bases, chunk_line, zone_chunks, zone_visits_lines}
+use Rattle.kz_model.specs.Report.{cpu_lines, rounds_lines, bases, chunk_line, zone_chunks, zone_visits_lines}
 use Rattle.kz_model.specs.Run.{Carries}
 use Rattle.kz_model.specs.Text.{text_of_lines}
 use Rattle.kz_model.specs.Turns.{is_of_round}
-use Rattle.kz_model.specs.Valid.{IsValid, IsStepWithin}
+use Rattle.kz_model.specs.Valid.{IsValid}
 use Rattle.kz_model.specs.Zone.{Chunk}
-use Rattle.kz_model.proofs.TraceRounds.{by_rounds, trace_by_rounds, steps_within}
+use Rattle.kz_model.proofs.TraceRounds.{trace_by_rounds, steps_within}
 use Rattle.kz_report.specs.Lines.{IsReportable, said, rounds_left, mapped_line, visits_after}
 use Rattle.kz_report.proofs.Said.{AreBases, length-of_rounds, rounds_same, said_rounds}
 use Rattle.kz_report.proofs.VisitLines.{RiseWithin, rises, visits_same}
@@ -78,9 +77,6 @@ section_written b plan made pages cpu trace replies s t u h lt are is_trace is_r
   where
     grouped : (s a c e rest : List ℕ) → (s ++ (a ++ (c ++ e))) ++ rest ≡ s ++ (((a ++ c) ++ e) ++ rest)
     grouped s a c e rest = simp append_assoc
-
-pub short_traces : (b : Bundle) → IsValid b → All (λ trace. length trace ≤ 1000000) b.traces
-short_traces b valid = λ k d lt. omega (arith, get_or-le-sum_by (λ (trace : List TraceStep). length trace) b.traces k d lt, valid.few_steps)
 
 -- ---- chunks
 

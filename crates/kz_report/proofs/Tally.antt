@@ -1,11 +1,12 @@
 -- The numbers by type are those of the lines.
-use Rattle.std.proofs.Common.{◌≡◌, ◌≢◌, ℕ, zero, suc, ◌+◌, ◌-◌, ◌*◌, ◌<◌, ◌≤◌, ◌==◌, nat_lt, Bool, true, false, if◌then◌else◌, List, [], ◌∷◌, ◌++◌, length, drop, map, replicate, sum_by, min, slice_index_or, slice_set, Option, None, Some, All, refl, ap, sym, ◌∙◌, subst, arith}
+use Rattle.std.proofs.Common.{◌≡◌, ◌≢◌, ℕ, zero, suc, ◌+◌, ◌-◌, ◌<◌, ◌≤◌, ◌==◌, nat_lt, Bool, true, false, if◌then◌else◌, List, [], ◌∷◌, ◌++◌, length, drop, replicate, min, slice_index_or, slice_set, Option, None, Some, All, refl, ap, sym, ◌∙◌, subst, arith}
 use Rattle.std.specs.List.{count_by, flat_map, range_with_len}
 use Rattle.std.specs.Option.{option_map_or}
 use Rattle.std.proofs.Math.Seq.{drop-cons}
 use Rattle.std.proofs.lemmas.List.{get_or-set_same, get_or-set_other, length-set, get_or_past, get_or-replicate, length-replicate}
 use Rattle.std.proofs.lemmas.List.Elements.{All-set, All-get_or, All-weaker}
-use Rattle.std.proofs.lemmas.List.Sums.{sum_by-cons, sum_by-append, get_or-le-sum_by}
+use Rattle.std.proofs.lemmas.List.Sums.{sum_by-cons, sum_by-append}
+use Rattle.kz_model.specs.Replies.{no_reply}
 use Rattle.kz_model.specs.declared.bundle.Bundle.{Bundle}
 use Rattle.kz_model.specs.declared.bundle.Act.{Act}
 use Rattle.kz_model.specs.declared.bundle.Act.TheVariants as act
@@ -279,11 +280,11 @@ count_past b (line ∷ trace) (r ∷ replies) (suc at) uses past = count_past b 
 
 -- one line on
 pub counted_on : (b : Bundle) (trace : List TraceStep) (replies : List Reply) (at : ℕ) (step : TraceStep) (r : Reply) (uses new whole : List Uses) → at < length trace → at < length replies →
-    step ≡ slice_index_or trace at no_step → r ≡ slice_index_or replies at r → counted_all b (drop at trace) (drop at replies) uses ≡ whole → new ≡ counted b step.act r uses →
+    step ≡ slice_index_or trace at no_step → r ≡ slice_index_or replies at no_reply → counted_all b (drop at trace) (drop at replies) uses ≡ whole → new ≡ counted b step.act r uses →
     counted_all b (drop (at + 1) trace) (drop (at + 1) replies) new ≡ whole
 counted_on b trace replies at step r uses new whole lt below is_step is_reply before made =
     ap (counted_all b (drop (at + 1) trace) (drop (at + 1) replies)) (made ∙ ap (λ (step : TraceStep). counted b step.act r uses) is_step ∙ ap (λ (r : Reply). counted b (slice_index_or trace at no_step).act r uses) is_reply)
-    ∙ sym (count_on b trace replies at r uses lt below)
+    ∙ sym (count_on b trace replies at no_reply uses lt below)
     ∙ before
 
 pub few_on : (b : Bundle) (a : Act) (r : Reply) (most more : ℕ) (uses new : List Uses) → most + 1 ≤ more → AreFew most uses → new ≡ counted b a r uses → AreFew more new

@@ -1,14 +1,13 @@
 -- A zone's visits, written one after another, are the lines of its rounds.
-use Rattle.std.proofs.Common.{◌≡◌, ◌≢◌, ℕ, zero, suc, ◌+◌, ◌-◌, ◌<◌, ◌≤◌, ◌==◌, Bool, true, false, if◌then◌else◌, List, [], ◌∷◌, ◌++◌, length, map, slice_index_or, Option, None, Some, All, codes, refl, ap, sym, ◌∙◌, subst, arith, append_assoc}
+use Rattle.std.proofs.Common.{◌≡◌, ℕ, zero, suc, ◌+◌, ◌<◌, ◌≤◌, ◌==◌, Bool, true, false, if◌then◌else◌, List, [], ◌∷◌, ◌++◌, length, map, None, Some, All, codes, refl, ap, sym, ◌∙◌, subst, arith, append_assoc}
 use Rattle.std.specs.List.{filter, flat_map, range_with_len}
 use Rattle.std.specs.List.Sorted.{IsNonDecreasing}
-use Rattle.std.proofs.lemmas.List.{append-nil}
 use Rattle.std.proofs.lemmas.Grind.{flat_map-append}
 use Rattle.kz_model.specs.declared.bundle.Bundle.{Bundle}
 use Rattle.kz_model.specs.declared.record.Visit.{Visit}
 use Rattle.kz_model.specs.Report.{zone_visits_lines}
 use Rattle.kz_model.specs.Text.{visit_text, visits_line, text_of_lines}
-use Rattle.kz_report.specs.Lines.{visits_begin, before_visit, end_of_open, visits_after}
+use Rattle.kz_report.specs.Lines.{visits_begin, visits_after}
 
 -- the rounds of these visits do not fall, and lie in this range
 abbrev pub RiseWithin : ℕ → ℕ → List Visit → Type 0

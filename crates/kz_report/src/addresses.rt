@@ -2,10 +2,8 @@
 ghost use Rattle.std.specs.Prelude.{◌≡◌, ◌<◌, ◌≤◌, Some, slice_index};
 ghost use Rattle.kz_model.specs.Journal.{zone_row as row_of_zone, zone_of_type as zone_at, type_of_name as type_at, addressed};
 ghost use Rattle.kz_model.specs.Supply.{address};
-ghost use Rattle.kz_model.specs.Text.{hex};
 
 use kz_model::{Act, Bundle, Geometry, Plan, ZoneRow};
-use std::fmt;
 
 /// The row of a zone of the plan.
 pub fn zone_row(plan: &Plan, zone: u32) -> ZoneRow
@@ -60,34 +58,18 @@ pub fn zone_of_act(bundle: &Bundle, plan: &Plan, act: &Act) -> u32
     }
 }
 
-/// An address as it is written.
-#[derive(Clone, Copy, Debug, PartialEq, Eq)]
-pub struct Address(u64);
-
-impl fmt::Display for Address {
-    ghost use Rattle.std.specs.Prelude.{Some};
-    ghost use Rattle.kz_model.specs.Text.{hex};
-
-    ghost output = { λ a. Some (hex a.0) };
-
-    fn fmt<W: fmt::Write>(&self, f: &mut fmt::Formatter<W>) -> fmt::Result {
-        let n = self.0;
-        write!(f, "0x{n:x}")
-    }
-}
-
 /// The bytes between the starts of two submaps.
 const SUBMAP: u64 = 0x100_0000_0000;
 
 const PAGE: u64 = 4096;
 
 /// The address of the element of this index, in a chunk that begins at this page of its zone's submap.
-pub fn address_of(row: ZoneRow, page: u32, index: u32) -> Address
+pub fn address_of(row: ZoneRow, page: u32, index: u32) -> u64
     requires submap { row.submap < 5 }
     requires element { row.shape.element ≤ 8192 }
-    ensures { result.0 ≡ address row.submap page row.shape.element (record { chunk = 0; index = index }) }
+    ensures { result ≡ address row.submap page row.shape.element (record { chunk = 0; index = index }) }
 {
     let start = SUBMAP * (u64::from(row.submap) + 1);
     let chunk = start + PAGE * u64::from(page);
-    Address(chunk + u64::from(index) * u64::from(row.shape.element))
+    chunk + u64::from(index) * u64::from(row.shape.element)
 }

@@ -3,6 +3,7 @@
 
 mod addresses;
 mod asks;
+mod numbers;
 mod pages;
 mod planned;
 mod replies;

@@ -1,95 +1,109 @@
 //! The line of a reply.
-ghost use Rattle.std.specs.Prelude.{◌≡◌, ◌<◌, ◌≤◌, ◌++◌, codes, decimal, OnOk};
-ghost use Rattle.std.specs.String.{string_bytes};
+ghost use Rattle.std.specs.Prelude.{◌≡◌, ◌<◌, ◌≤◌, ◌++◌, length, drop, slice_index_or, codes, decimal, All, OnOk};
 ghost use Rattle.kz_model.specs.declared.step.Reply.TheVariants as reply;
-ghost use Rattle.kz_model.specs.Report.{base_of};
-ghost use Rattle.kz_model.specs.Text.{hex_bytes, hex_of_byte, reply_line};
-ghost use Rattle.kz_report.specs.Lines.{params_with};
+ghost use Rattle.kz_model.specs.Journal.{addressed};
+ghost use Rattle.kz_model.specs.Planned.{IsFitRow};
+ghost use Rattle.kz_model.specs.Text.{hex, hex_bytes, reply_line};
+ghost use Rattle.kz_model.specs.Traces.{no_step};
+ghost use Rattle.kz_report.specs.Lines.{answered_line, params_with};
 
-use crate::addresses::address_of;
-use crate::pages::page_at;
-use kz_model::{Block, Reply, ZoneRow};
+use crate::addresses::{address_of, zone_of_act, zone_row};
+use crate::numbers::{bytes_before, hexadecimal_before, push_hex_bytes, push_number};
+use crate::pages::{Given, page_at};
+use itoa::write_digits;
+use kz_model::{Act, Block, Reply, Trace, ZoneRow};
 use std::alloc::AllocError;
 
-/// The line of a reply to a step of the zone of this row, whose chunks begin at these pages.
+/// The line of the reply to the step of this place. Only a block's line needs the step's zone.
 pub fn write_reply(
-    out: &mut String,
-    row: ZoneRow,
-    pages: &[u32],
-    reply: &Reply,
+    out: &mut Vec<u8>,
+    given: &Given<'_>,
+    trace: &Trace,
+    at: usize,
+    reply: Reply,
 ) -> Result<(), AllocError>
-    requires submap { row.submap < 5 }
-    requires element { row.shape.element ≤ 8192 }
-    ensures { OnOk result (string_bytes out.new ≡ string_bytes out.old ++ (reply_line (params_with row) (base_of pages.now reply.now) reply.now ++ codes "\n")) }
+    requires rows { All IsFitRow given.now.plan.now.zones }
+    requires at { at < length trace.now }
+    ensures { let act = (slice_index_or trace.now at no_step).act in OnOk result (out.new.items ≡ out.old.items ++ (answered_line given.now.plan.now given.now.pages.now (record { act = act; zone = (addressed given.now.bundle.now given.now.plan.now act).0; reply = reply }) ++ codes "\n")) }
 {
     match reply {
-        Reply::Block { block } => write_block(
-            out,
-            row,
-            page_at(pages, block.chunk as usize),
-            *block,
-        ),
-        Reply::Done => out.push_str("done\n"),
-        Reply::NoName => out.push_str("no name\n"),
-        Reply::NameBusy => out.push_str("busy\n"),
-        Reply::WrongZone { asked, owner } => write_wrong_zone(out, *asked, *owner),
-        Reply::NotHeld => out.push_str("not held\n"),
-        Reply::NotGiven => out.push_str("not given\n"),
-        Reply::OutOfBlock => out.push_str("out of block\n"),
-        Reply::Unmapped => out.push_str("unmapped\n"),
+        Reply::Block { block } => write_given(out, given, &trace.step(at).act, block),
+        Reply::Done => out.extend_from_slice(b"done\n"),
+        Reply::NoName => out.extend_from_slice(b"no name\n"),
+        Reply::NameBusy => out.extend_from_slice(b"busy\n"),
+        Reply::WrongZone { asked, owner } => write_wrong_zone(out, asked, owner),
+        Reply::NotHeld => out.extend_from_slice(b"not held\n"),
+        Reply::NotGiven => out.extend_from_slice(b"not given\n"),
+        Reply::OutOfBlock => out.extend_from_slice(b"out of block\n"),
+        Reply::Unmapped => out.extend_from_slice(b"unmapped\n"),
         Reply::Bytes { bytes } => write_bytes(out, bytes.as_slice()),
-        Reply::Trimmed { pages } => write_number(out, "trimmed ", *pages),
-        Reply::NoSpace { left } => write_number(out, "no space ", *left),
-        Reply::NoFrames { free } => write_number(out, "no frames ", *free),
+        Reply::Trimmed { pages } => write_number(out, b"trimmed ", pages),
+        Reply::NoSpace { left } => write_number(out, b"no space ", left),
+        Reply::NoFrames { free } => write_number(out, b"no frames ", free),
     }
 }
 
-fn write_block(out: &mut String, row: ZoneRow, page: u32, block: Block) -> Result<(), AllocError>
-    requires submap { row.submap < 5 }
-    requires element { row.shape.element ≤ 8192 }
-    ensures { OnOk result (string_bytes out.new ≡ string_bytes out.old ++ (reply_line (params_with row) page (reply.Block block) ++ codes "\n")) }
+/// The line of a block that an act was given.
+fn write_given(
+    out: &mut Vec<u8>,
+    given: &Given<'_>,
+    act: &Act,
+    block: Block,
+) -> Result<(), AllocError>
+    requires { All IsFitRow given.now.plan.now.zones }
+    ensures { OnOk result (out.new.items ≡ out.old.items ++ (answered_line given.now.plan.now given.now.pages.now (record { act = act.now; zone = (addressed given.now.bundle.now given.now.plan.now act.now).0; reply = reply.Block block }) ++ codes "\n")) }
 {
-    let chunk = block.chunk;
-    let index = block.index;
-    let address = address_of(row, page, index);
-    write!(out, "block {chunk}.{index} {address}\n")
+    let zone = zone_of_act(given.bundle, given.plan, act);
+    let page = page_at(given.pages.of_zone(zone), block.chunk as usize);
+    write_block(out, zone_row(given.plan, zone), page, block)
 }
 
-fn write_wrong_zone(out: &mut String, asked: u32, owner: u32) -> Result<(), AllocError>
-    ensures { OnOk result (string_bytes out.new ≡ string_bytes out.old ++ ((codes "wrong zone " ++ decimal asked ++ codes " " ++ decimal owner) ++ codes "\n")) }
+/// The most bytes of a block's line.
+const BLOCK_LINE: usize = 48;
+
+/// The line of a block of the zone of this row, whose chunk begins at this page.
+fn write_block(out: &mut Vec<u8>, row: ZoneRow, page: u32, block: Block) -> Result<(), AllocError>
+    requires submap { row.submap < 5 }
+    requires element { row.shape.element ≤ 8192 }
+    ensures { OnOk result (out.new.items ≡ out.old.items ++ (reply_line (params_with row) page (reply.Block block) ++ codes "\n")) }
 {
-    write!(out, "wrong zone {asked} {owner}\n")
+    let mut line = [b'\n'; BLOCK_LINE];
+    let start = block_before(&mut line, block, address_of(row, page, block.index));
+    out.extend_from_slice(&line[start..])
+}
+
+/// Writes a block and its address so that they end before the last byte, and returns where they start.
+fn block_before(line: &mut [u8; BLOCK_LINE], block: Block, address: u64) -> usize
+    ensures start { result ≤ 47 }
+    ensures written { drop result line.new ≡ (codes "block " ++ decimal block.chunk ++ codes "." ++ decimal block.index ++ codes " " ++ hex address) ++ drop 47 line.old }
+{
+    let at = hexadecimal_before(line, BLOCK_LINE - 1, address);
+    let at = bytes_before(line, at, b" 0x");
+    let at = write_digits(u64::from(block.index), line, at);
+    let at = bytes_before(line, at, b".");
+    let at = write_digits(u64::from(block.chunk), line, at);
+    bytes_before(line, at, b"block ")
+}
+
+fn write_wrong_zone(out: &mut Vec<u8>, asked: u32, owner: u32) -> Result<(), AllocError>
+    ensures { OnOk result (out.new.items ≡ out.old.items ++ ((codes "wrong zone " ++ decimal asked ++ codes " " ++ decimal owner) ++ codes "\n")) }
+{
+    push_number(out, b"wrong zone ", u64::from(asked))?;
+    write_number(out, b" ", owner)
 }
 
 /// A line that ends with a number.
-fn write_number(out: &mut String, words: &str, number: u32) -> Result<(), AllocError>
-    ensures { OnOk result (string_bytes out.new ≡ string_bytes out.old ++ ((words.now ++ decimal number) ++ codes "\n")) }
+fn write_number(out: &mut Vec<u8>, words: &[u8], number: u32) -> Result<(), AllocError>
+    ensures { OnOk result (out.new.items ≡ out.old.items ++ ((words.now ++ decimal number) ++ codes "\n")) }
 {
-    write!(out, "{words}{number}\n")
+    push_number(out, words, u64::from(number))?;
+    out.extend_from_slice(b"\n")
 }
 
-fn write_bytes(out: &mut String, bytes: &[u8]) -> Result<(), AllocError>
-    ensures { OnOk result (string_bytes out.new ≡ string_bytes out.old ++ ((codes "bytes " ++ hex_bytes bytes.now) ++ codes "\n")) }
+fn write_bytes(out: &mut Vec<u8>, bytes: &[u8]) -> Result<(), AllocError>
+    ensures { OnOk result (out.new.items ≡ out.old.items ++ ((codes "bytes " ++ hex_bytes bytes.now) ++ codes "\n")) }
 {
-    out.push_str("bytes ")?;
-    write_hex(out, bytes)?;
-    out.push_str("\n")
-}
-
-/// Each byte as two digits.
-fn write_hex(out: &mut String, bytes: &[u8]) -> Result<(), AllocError>
-    ensures { OnOk result (string_bytes out.new ≡ string_bytes out.old ++ hex_bytes bytes.now) }
-{
-    for byte in bytes {
-        write_hex_byte(out, *byte)?;
-    }
-    Ok(())
-}
-
-fn write_hex_byte(out: &mut String, byte: u8) -> Result<(), AllocError>
-    ensures { OnOk result (string_bytes out.new ≡ string_bytes out.old ++ hex_of_byte byte) }
-{
-    let high = byte / 16;
-    let low = byte % 16;
-    write!(out, "{high:x}{low:x}")
+    out.extend_from_slice(b"bytes ")?;
+    push_hex_bytes(out, bytes)?;
+    out.extend_from_slice(b"\n")
 }

@@ -9,8 +9,8 @@ use crate::rounds::write_rounds;
 use crate::uses::{Uses, count_trace, write_use};
 use crate::zones::{write_chunks, write_visits};
 use kz_model::{
-    Act, Answer, Ask, Block, Bundle, Geometry, Items, Name, NameRow, Piece, Plan, Reply, Seed,
-    SupplyEntry, Trace, TraceStep, Types, Visit, ZoneRow,
+    Act, Answer, Ask, Block, Bundle, Geometry, Items, Name, NameRow, Piece, Plan, Reply,
+    ReplySheet, Seed, SupplyEntry, Trace, TraceStep, Types, Visit, ZoneRow,
 };
 use std::alloc::{AllocError, Global};
 use std::test::Fail;
@@ -100,16 +100,26 @@ fn zones_of_both_kinds(rt: HostRuntime) -> Result<(), Fail> {
 
 #[test]
 fn replies_of_every_kind(rt: HostRuntime) -> Result<(), Fail> {
-    let row = ZoneRow {
-        bucket: Some(0),
-        submap: 0,
-        shape: Geometry {
-            element: 64,
-            count: 64,
-            pages: 1,
-        },
-        types: 1,
+    let alloc = rt.alloc();
+    let bundle = two_names(alloc)?;
+    let plan = two_zones(alloc)?;
+    let log = [0, 7].map(|page| SupplyEntry {
+        zone: 0,
+        ask: Ask::Back { pages: 1 },
+        answer: Answer::Base { page },
+    });
+    let pages = Pages::of_log(alloc, 2, &log)?;
+    let given = Given {
+        bundle: &bundle,
+        plan: &plan,
+        pages: &pages,
     };
+    let mut trace = Trace::new(alloc);
+    trace.push(TraceStep {
+        line: 0,
+        round: 0,
+        act: Act::Alloc { name: 0, of: 0 },
+    })?;
     let replies = [
         Reply::Block {
             block: Block { chunk: 1, index: 3 },
@@ -129,13 +139,13 @@ fn replies_of_every_kind(rt: HostRuntime) -> Result<(), Fail> {
         Reply::NoSpace { left: 3 },
         Reply::NoFrames { free: 0 },
     ];
-    let mut out = String::new(rt.alloc());
+    let mut out = Vec::new(alloc);
     for reply in &replies {
-        write_reply(&mut out, row, &[0, 7], reply)?;
+        write_reply(&mut out, &given, &trace, 0, reply.copy())?;
     }
     let wanted =
         "block 1.3 0x100000070c0\ndone\nno name\nbusy\nwrong zone 1 0\nnot held\nnot given\nout of block\nunmapped\nbytes 00ab\ntrimmed 2\nno space 3\nno frames 0\n";
-    assert_eq!(rt; out.as_str(), wanted);
+    assert_eq!(rt; out.as_slice(), wanted.as_bytes());
     Ok(())
 }
 
@@ -151,7 +161,7 @@ fn chunks_and_visits(rt: HostRuntime) -> Result<(), Fail> {
         },
         types: 1,
     };
-    let mut out = String::new(rt.alloc());
+    let mut out = Vec::new(rt.alloc());
     write_chunks(&mut out, 1, row, &[0, 10], &[true, false])?;
     let visits = [(0, 0, 1, false), (0, 1, 4, true), (2, 0, 2, true)].map(|(
         round,
@@ -167,7 +177,7 @@ fn chunks_and_visits(rt: HostRuntime) -> Result<(), Fail> {
     write_visits(&mut out, 1, &visits)?;
     let wanted =
         "chunk 1 0 0x50000000000 mapped\nchunk 1 1 0x5000000a000 unmapped\nvisits 1 0 0:1 1:4*\nvisits 1 2 0:2*\n";
-    assert_eq!(rt; out.as_str(), wanted);
+    assert_eq!(rt; out.as_slice(), wanted.as_bytes());
     Ok(())
 }
 
@@ -222,11 +232,11 @@ fn a_log_of_two_zones(rt: HostRuntime) -> Result<(), Fail> {
     let pages = Pages::of_log(rt.alloc(), 2, &log)?;
     assert_eq!(rt; pages.of_zone(0), [0, 2].as_slice());
     assert_eq!(rt; pages.of_zone(1), [9].as_slice());
-    let mut out = String::new(rt.alloc());
+    let mut out = Vec::new(rt.alloc());
     write_asks(&mut out, &log)?;
     let wanted =
         "ask 0 chunk 2 base 0\nask 1 chunk 1 base 9\nask 0 chunk 2 base 2\nask 0 chunk 2 no space 1\nask 0 chunk 2 no frames 1\nask 0 frames 2 given\nask 0 frames 2 no frames 0\nask 1 back 1 taken\n";
-    assert_eq!(rt; out.as_str(), wanted);
+    assert_eq!(rt; out.as_slice(), wanted.as_bytes());
     Ok(())
 }
 
@@ -261,8 +271,12 @@ fn rounds_of_two_zones(rt: HostRuntime) -> Result<(), Fail> {
         round: 1,
         act: last,
     })?;
-    let replies = [Reply::Block { block }, Reply::Block { block }, Reply::Done];
-    let mut out = String::new(alloc);
+    let mut sheet = ReplySheet::new(alloc, 3)?;
+    sheet.push(&Reply::Block { block });
+    sheet.push(&Reply::Block { block });
+    sheet.push(&Reply::Done);
+    let replies = sheet.finish();
+    let mut out = Vec::new(alloc);
     let given = Given {
         bundle: &bundle,
         plan: &plan,
@@ -285,11 +299,11 @@ fn rounds_of_two_zones(rt: HostRuntime) -> Result<(), Fail> {
     count_trace(&mut uses, &bundle, &trace, &replies);
     for of in 0..2 {
         if of < uses.len() {
-            write_use(&mut out, "x", uses[of])?;
+            write_use(&mut out, b"x", uses[of])?;
         }
     }
     let wanted =
         "block 0.1 0x10000003040\n--\nblock 0.1 0x5000000a000\ndone\nuse x allocs 1 frees 1 live 0\nuse x allocs 1 frees 0 live 1\n";
-    assert_eq!(rt; out.as_str(), wanted);
+    assert_eq!(rt; out.as_slice(), wanted.as_bytes());
     Ok(())
 }

@@ -1,10 +1,10 @@
 //! The texts.
-ghost use Rattle.std.specs.Prelude.{◌≡◌, ◌++◌, IfOk, OnOk};
-ghost use Rattle.std.specs.String.{string_bytes};
+ghost use Rattle.std.specs.Prelude.{◌≡◌, ◌∷◌, codes, IfOk};
 ghost use Rattle.kz_model.specs.Planned.{IsPlanned};
 ghost use Rattle.kz_model.specs.Recorded.{IsAnswered};
-ghost use Rattle.kz_model.specs.Report.{report_text};
+ghost use Rattle.kz_model.specs.Report.{plan_lines, report_text};
 ghost use Rattle.kz_model.specs.Run.{IsRun};
+ghost use Rattle.kz_model.specs.Text.{text_of_lines};
 ghost use Rattle.kz_model.specs.Valid.{planned_text, layouts_in};
 ghost use Rattle.kz_report.specs.Lines.{AreText, IsReportable};
 
@@ -77,22 +77,35 @@ pub fn text_with(
     ensures { IfOk result (λ text. text.items ≡ report_text bundle.now plan.now (layouts_in bundle.now) made.now.visits made.now.supply) }
 {
     plans_are_fit();
+    report_of(alloc, bundle, plan, layouts, made)
+}
+
+/// The lines before those of the CPUs.
+fn first_lines(
+    alloc: Global,
+    bundle: &Bundle,
+    plan: &Plan,
+    layouts: &[Layout],
+) -> Result<Vec<u8>, AllocError>
+    requires { AreText bundle.now plan.now layouts.now }
+    ensures { IfOk result (λ text. text.items ≡ text_of_lines (codes "report 1" ∷ plan_lines bundle.now plan.now layouts.now)) }
+{
     let mut out = String::new(alloc);
-    write_report(&mut out, alloc, bundle, plan, layouts, made)?;
+    out.push_str("report 1\n")?;
+    write_plan_lines(&mut out, bundle, plan, layouts)?;
     Ok(out.into_bytes())
 }
 
-fn write_report(
-    out: &mut String,
+fn report_of(
     alloc: Global,
     bundle: &Bundle,
     plan: &Plan,
     layouts: &[Layout],
     made: &Record,
-) -> Result<(), AllocError>
+) -> Result<Vec<u8>, AllocError>
     requires text { AreText bundle.now plan.now layouts.now }
     requires record { IsReportable bundle.now plan.now made.now }
-    ensures { OnOk result (string_bytes out.new ≡ string_bytes out.old ++ report_text bundle.now plan.now layouts.now made.now.visits made.now.supply) }
+    ensures { IfOk result (λ text. text.items ≡ report_text bundle.now plan.now layouts.now made.now.visits made.now.supply) }
 {
     let pages = Pages::of_log(alloc, plan.zones.len(), made.supply.as_slice())?;
     let given = Given {
@@ -100,12 +113,12 @@ fn write_report(
         plan,
         pages: &pages,
     };
-    out.push_str("report 1\n")?;
-    write_plan_lines(out, bundle, plan, layouts)?;
-    write_cpus(out, &given, made)?;
-    write_uses(out, alloc, bundle, plan, made)?;
-    write_all_chunks(out, &given, made)?;
-    write_all_visits(out, bundle, plan, made)?;
-    write_asks(out, made.supply.as_slice())?;
-    out.push_str("end\n")
+    let mut out = first_lines(alloc, bundle, plan, layouts)?;
+    write_cpus(&mut out, &given, made)?;
+    write_uses(&mut out, alloc, bundle, plan, made)?;
+    write_all_chunks(&mut out, &given, made)?;
+    write_all_visits(&mut out, bundle, plan, made)?;
+    write_asks(&mut out, made.supply.as_slice())?;
+    out.extend_from_slice(b"end\n")?;
+    Ok(out)
 }

@@ -1,15 +1,15 @@
 //! The lines of types: how many blocks were given and how many were freed.
 ghost use Rattle.std.specs.Prelude.{◌≡◌, ◌+◌, ◌<◌, ◌≤◌, ◌++◌, length, map, replicate, slice_index_or, codes, All, IfOk, OnOk, IsAscii};
 ghost use Rattle.std.specs.List.{range_with_len};
-ghost use Rattle.std.specs.String.{string_bytes};
 ghost use Rattle.kz_model.specs.Report.{use_line, all_answered_lines};
 ghost use Rattle.kz_model.specs.Text.{text_of_lines};
+ghost use Rattle.kz_model.specs.Traces.{no_step};
 ghost use Rattle.kz_report.specs.Lines.{IsReportable};
 ghost use Rattle.kz_report.specs.Uses.{no_uses as nothing, type_given as given_type, type_freed as freed_type, one_given, one_freed, changed_at, counted, counted_all, counted_cpus, AreFew, use_text};
 
 use crate::addresses::type_of_name;
-use crate::planned::from_ascii;
-use kz_model::{Act, Bundle, Plan, Record, Reply, Trace};
+use crate::numbers::push_number;
+use kz_model::{Act, Bundle, Plan, Record, Replies, Reply, Trace};
 use std::alloc::{AllocError, Global};
 
 /// How many of a type's blocks were given and how many were freed.
@@ -21,18 +21,18 @@ pub struct Uses {
 
 /// The lines of all types.
 pub fn write_uses(
-    out: &mut String,
+    out: &mut Vec<u8>,
     alloc: Global,
     bundle: &Bundle,
     plan: &Plan,
     made: &Record,
 ) -> Result<(), AllocError>
     requires { IsReportable bundle.now plan.now made.now }
-    ensures { OnOk result (string_bytes out.new ≡ string_bytes out.old ++ text_of_lines (map (use_line bundle.now (all_answered_lines bundle.now plan.now made.now.visits made.now.supply)) (range_with_len 0 (length bundle.now.types)))) }
+    ensures { OnOk result (out.new.items ≡ out.old.items ++ text_of_lines (map (use_line bundle.now (all_answered_lines bundle.now plan.now made.now.visits made.now.supply)) (range_with_len 0 (length bundle.now.types)))) }
 {
     let uses = uses_of(alloc, bundle, made)?;
     for of in 0..bundle.types.len() {
-        write_use(out, from_ascii(bundle.types.name(of)), uses[of])?;
+        write_use(out, bundle.types.name(of), uses[of])?;
     }
     Ok(())
 }
@@ -48,7 +48,7 @@ fn uses_of(alloc: Global, bundle: &Bundle, made: &Record) -> Result<Vec<Uses>, A
     let mut uses = no_uses(alloc, bundle.types.len())?;
     for cpu in 0..bundle.cpus {
         let trace = &bundle.traces.as_slice()[cpu as usize];
-        let replies = made.replies.as_slice()[cpu as usize].as_slice();
+        let replies = &made.replies.as_slice()[cpu as usize];
         count_trace(&mut uses, bundle, trace, replies);
     }
     Ok(uses)
@@ -70,17 +70,31 @@ fn no_uses(alloc: Global, types: usize) -> Result<Vec<Uses>, AllocError>
 }
 
 /// Counts the lines of a CPU.
-pub fn count_trace(uses: &mut Vec<Uses>, bundle: &Bundle, trace: &Trace, replies: &[Reply])
+pub fn count_trace(uses: &mut Vec<Uses>, bundle: &Bundle, trace: &Trace, replies: &Replies)
     requires few { AreFew 15000000 uses.old.items }
     requires lines { length trace.now ≤ 1000000 }
     ensures { uses.new.items ≡ counted_all bundle.now trace.now replies.now uses.old.items }
 {
     for at in 0..trace.len().min(replies.len()) {
-        count_line(uses, bundle, &trace.step(at).act, &replies[at]);
+        count_line(uses, bundle, trace, at, &replies.reply(at));
     }
 }
 
-fn count_line(uses: &mut Vec<Uses>, bundle: &Bundle, act: &Act, reply: &Reply)
+/// Counts a line. No act counts where the reply is neither a block nor `done`.
+fn count_line(uses: &mut Vec<Uses>, bundle: &Bundle, trace: &Trace, at: usize, reply: &Reply)
+    requires few { AreFew 16000000 uses.old.items }
+    requires at { at < length trace.now }
+    ensures { uses.new.items ≡ counted bundle.now (slice_index_or trace.now at no_step).act reply.now uses.old.items }
+{
+    match reply {
+        Reply::Block { .. } | Reply::Done => {
+            count_act(uses, bundle, &trace.step(at).act, reply);
+        }
+        _ => {}
+    }
+}
+
+fn count_act(uses: &mut Vec<Uses>, bundle: &Bundle, act: &Act, reply: &Reply)
     requires { AreFew 16000000 uses.old.items }
     ensures { uses.new.items ≡ counted bundle.now act.now reply.now uses.old.items }
 {
@@ -146,14 +160,15 @@ fn type_freed(bundle: &Bundle, act: &Act, reply: &Reply) -> Option<u32>
     }
 }
 
-pub fn write_use(out: &mut String, name: &str, uses: Uses) -> Result<(), AllocError>
-    ensures { OnOk result (string_bytes out.new ≡ string_bytes out.old ++ (use_text name.now uses ++ codes "\n")) }
+pub fn write_use(out: &mut Vec<u8>, name: &[u8], uses: Uses) -> Result<(), AllocError>
+    ensures { OnOk result (out.new.items ≡ out.old.items ++ (use_text name.now uses ++ codes "\n")) }
 {
     let allocs = uses.allocs;
     let frees = uses.frees;
-    let live = allocs.saturating_sub(frees);
-    write!(
-        out,
-        "use {name} allocs {allocs} frees {frees} live {live}\n"
-    )
+    out.extend_from_slice(b"use ")?;
+    out.extend_from_slice(name)?;
+    push_number(out, b" allocs ", u64::from(allocs))?;
+    push_number(out, b" frees ", u64::from(frees))?;
+    push_number(out, b" live ", u64::from(allocs.saturating_sub(frees)))?;
+    out.extend_from_slice(b"\n")
 }

@@ -4,9 +4,9 @@ use Rattle.kz_make.specs.Telling.{IsWithin, AreTotals}
 use Rattle.kz_make.proofs.summary.add_replies.Given as goal
 
 -- the replies so far are told
-abbrev pub invariant-loop-reply : goal.invariant-loop-reply
-invariant-loop-reply l = record {
-  steps : l.totals.steps ≡ l.fn.totals.steps + l.reply-index;
+abbrev pub invariant-loop-at : goal.invariant-loop-at
+invariant-loop-at l = record {
+  steps : l.totals.steps ≡ l.fn.totals.steps + l.at;
   within : IsWithin l.totals;
-  more : (before : List Reply) → AreTotals l.fn.totals before → AreTotals l.totals (before ++ take l.reply-index l.replies);
+  more : (before : List Reply) → AreTotals l.fn.totals before → AreTotals l.totals (before ++ take l.at l.replies);
 }

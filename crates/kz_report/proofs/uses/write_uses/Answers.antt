@@ -1,5 +1,4 @@
 use Rattle.std.proofs.Common.{List, ℕ, ◌++◌, ap, ◌∙◌, codes, length, arith}
-use Rattle.std.specs.String.{string_bytes}
 use Rattle.kz_model.specs.Recorded.{cpu_answered}
 use Rattle.kz_model.specs.Report.{use_line, all_answered_lines}
 use Rattle.kz_report.proofs.PlanText.{more_of_range}
@@ -15,7 +14,7 @@ loop-of-preserved c =
     let b = c.args.bundle.now in
     let plan = c.args.plan.now in
     let made = c.args.made.now in
-    let line = use_is b plan made.replies (cpu_answered b plan made.visits made.supply) b.cpus (length b.types) c.loop-of.of c.from_ascii.result.now c.in_ok-uses.uses.items c.index.result.now
-    (omega (arith, c.loop-of-test.true, c.len-of-end.ensures)) c.in_ok-uses.ensures c.index.ensures (c.from_ascii.ensures ∙ c.name.ensures) (λ cpu lt. (has_section b plan made cpu c.requires lt).answered) in
-    more_of_range (use_line b (all_answered_lines b plan made.visits made.supply)) c.loop-of.of (string_bytes c.args.out.now) (string_bytes c.loop-of.out) (string_bytes c.write_use.new.out) c.loop-of.invariant
-    (c.in_ok-write_use.ensures ∙ ap (λ (line : List ℕ). string_bytes c.loop-of.out ++ (line ++ codes "\n")) line)
+    let line = use_is b plan made.replies (cpu_answered b plan made.visits made.supply) b.cpus (length b.types) c.loop-of.of c.name.result.now c.in_ok-uses.uses.items c.index.result.now
+    (omega (arith, c.loop-of-test.true, c.len-of-end.ensures)) c.in_ok-uses.ensures c.index.ensures c.name.ensures (λ cpu lt. (has_section b plan made cpu c.requires lt).answered) in
+    more_of_range (use_line b (all_answered_lines b plan made.visits made.supply)) c.loop-of.of (c.args.out.now.items) (c.loop-of.out.items) (c.write_use.new.out.items) c.loop-of.invariant
+    (c.in_ok-write_use.ensures ∙ ap (λ (line : List ℕ). c.loop-of.out.items ++ (line ++ codes "\n")) line)
