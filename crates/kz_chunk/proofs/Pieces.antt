@@ -1,8 +1,8 @@
 -- The bytes of elements among those of the frames.
-use Rattle.std.proofs.Common.{◌≡◌, ℕ, ◌+◌, ◌-◌, ◌*◌, ◌<◌, ◌≤◌, ◌==◌, true, false, not, Bool, All, List, ◌++◌, length, length-append, take, drop, replicate, refl, ap, ap₂, sym, ◌∙◌, subst, arith}
+use Rattle.std.proofs.Common.{◌≡◌, ℕ, ◌+◌, ◌-◌, ◌*◌, ◌<◌, ◌≤◌, ◌==◌, true, not, Bool, All, List, ◌++◌, length, length-append, take, drop, replicate, ap, ap₂, sym, ◌∙◌, subst, arith}
 use Rattle.std.specs.List.{range_with_len}
 use Rattle.std.proofs.Math.Nat.{mul-le-mul_right}
-use Rattle.std.proofs.Math.Seq.{take-append-add, take-nil}
+use Rattle.std.proofs.Math.Seq.{take-append-add}
 use Rattle.std.proofs.lemmas.List.{drop-take, length-drop, length-replicate, length-take-le, replicate-append-replicate, take-take}
 use Rattle.kz_model.specs.declared.record.Geometry.{Geometry}
 use Rattle.kz_model.specs.Rules.{with_number}

@@ -1,5 +1,5 @@
 //! From the bytes of a bundle to the text that is made of it.
-ghost use Rattle.std.specs.Prelude.{◌≡◌, ◌≤◌, All, length, IfOk, MatchResult};
+ghost use Rattle.std.specs.Prelude.{◌≡◌, ◌≤◌, All, length, vec_len, IfOk, MatchResult};
 ghost use Rattle.kz_model.specs.Planned.{IsPlanned};
 ghost use Rattle.kz_model.specs.Summary.{summary_text as told, replies_of_run};
 ghost use Rattle.kz_model.specs.Valid.{IsValid, layouts_in, plan_in, replayed_text};
@@ -60,26 +60,28 @@ fn summary_of(
     summary_text(alloc, number, bytes, &made)
 }
 
-/// The text that a command makes of the bundle that these bytes spell.
+/// The text that a command makes of the bundle that these bytes spell, which are let go before the work begins.
 fn text_of(
     alloc: Global,
     command: Command,
-    bytes: &[u8],
+    bytes: Vec<u8>,
     bundle: &Bundle,
     layouts: &[Layout],
 ) -> Result<Vec<u8>, AllocError>
-    requires made { IsMadeFor command bytes.now }
+    requires made { IsMadeFor command bytes.items }
     requires valid { IsValid bundle.now }
     requires layouts { layouts.now ≡ layouts_in bundle.now }
     requires few { length layouts.now ≤ 1024 }
     requires sizes { All (λ layout. layout.size ≤ 8192) layouts.now }
     ensures { IfOk result (λ text. text.items ≡ text_for command bundle.now) }
 {
+    let count = bytes.len() as u64;
+    drop(bytes);
     let plan = plan_of(alloc, bundle, layouts)?;
     match command {
         Command::Plan => plan_text_with(alloc, bundle, &plan, layouts),
         Command::Replay => report_of(alloc, bundle, &plan, layouts),
-        Command::Make { number } => summary_of(alloc, number, bytes.len() as u64, bundle, &plan),
+        Command::Make { number } => summary_of(alloc, number, count, bundle, &plan),
     }
 }
 
@@ -87,13 +89,13 @@ fn text_of(
 pub fn answer(
     alloc: Global,
     command: Command,
-    bytes: &[u8],
+    bytes: Vec<u8>,
 ) -> Result<Result<Vec<u8>, Refusal>, AllocError>
-    requires few { length bytes.now ≤ 33554432 }
-    requires made { IsMadeFor command bytes.now }
-    ensures { IfOk result (λ outcome. MatchResult outcome (λ text. MakesOf command bytes.now text.items) (λ refusal. Refuses command bytes.now refusal)) }
+    requires few { vec_len bytes ≤ 33554432 }
+    requires made { IsMadeFor command bytes.items }
+    ensures { IfOk result (λ outcome. MatchResult outcome (λ text. MakesOf command bytes.items text.items) (λ refusal. Refuses command bytes.items refusal)) }
 {
-    match read_with_layouts(alloc, bytes) {
+    match read_with_layouts(alloc, bytes.as_slice()) {
         Ok((bundle, layouts)) => Ok(Ok(text_of(
             alloc,
             command,

@@ -1,5 +1,5 @@
 //! The top call: the words, then the input or a made bundle, then the work, then the output.
-ghost use Rattle.std.specs.Prelude.{◌≡◌, ◌≢◌, ◌⊎◌, ◌≤◌, ◌<◌, ◌↔◌, Bool, List, [], ℕ, Option, length, IsTrue, Some};
+ghost use Rattle.std.specs.Prelude.{◌≡◌, ◌≢◌, ◌⊎◌, ◌≤◌, ◌<◌, ◌↔◌, Bool, List, [], ℕ, Option, length, vec_len, IsTrue, Some};
 ghost use Rattle.kz_text.specs.Streams.{Rose};
 ghost use Rattle.kz_model.specs.declared.grammar.Refusal.{Refusal};
 ghost use Rattle.kz_top.specs.declared.command.Command.{Command};
@@ -122,7 +122,7 @@ fn work_on_input<S: Source, K: Sink>(
             line: 0,
             cause: Cause::TooLong,
         }),
-        Ok(bytes) => finish(alloc, command, bytes.as_slice(), out),
+        Ok(bytes) => finish(alloc, command, bytes, out),
     }
 }
 
@@ -135,16 +135,16 @@ fn work_on_made<K: Sink>(alloc: Global, number: u64, out: &mut K) -> Status
 {
     match make_bundle(alloc, number) {
         Err(_) => Status::Memory,
-        Ok(bytes) => finish(alloc, Command::Make { number }, bytes.as_slice(), out),
+        Ok(bytes) => finish(alloc, Command::Make { number }, bytes, out),
     }
 }
 
 /// Writes to out the text that a command makes of the bundle that these bytes spell.
-fn finish<K: Sink>(alloc: Global, command: Command, bytes: &[u8], out: &mut K) -> Status
-    requires few { length bytes.now ≤ 33554432 }
-    requires made { IsMadeFor command bytes.now }
+fn finish<K: Sink>(alloc: Global, command: Command, bytes: Vec<u8>, out: &mut K) -> Status
+    requires few { vec_len bytes ≤ 33554432 }
+    requires made { IsMadeFor command bytes.items }
     ensures nothing { result ≢ Status.Ok → result ≢ Status.WriteFault → out.new ≡ out.old }
-    ensures done { IsFinished command bytes.now (K.taken out.old) (K.taken out.new) (K.faults out.old) (K.faults out.new) (K.sure_room out.old) result }
+    ensures done { IsFinished command bytes.items (K.taken out.old) (K.taken out.new) (K.faults out.old) (K.faults out.new) (K.sure_room out.old) result }
 {
     match answer(alloc, command, bytes) {
         Err(_) => Status::Memory,

@@ -113,7 +113,6 @@ fn elements_in_four_frames(rt: HostRuntime) -> Result<(), Fail> {
 
 #[test]
 fn a_frame_that_goes_there_and_back(rt: HostRuntime) -> Result<(), Fail> {
-    let letters = vec![in rt.alloc(); b'2'; 1024]?;
     // Each zone in turn fills an element. Whoever gets the frame next finds zeros, under new names and
     // under stale ones.
     let steps: &[u8] = b"\
@@ -141,8 +140,13 @@ fn a_frame_that_goes_there_and_back(rt: HostRuntime) -> Result<(), Fail> {
             &[TWO_ZONES, report]
         )?
     );
+    Ok(())
+}
 
-    // So do two frames of one chunk that go to two zones and back, each from the other place.
+#[test]
+fn two_frames_that_go_to_two_zones_and_back(rt: HostRuntime) -> Result<(), Fail> {
+    let letters = vec![in rt.alloc(); b'2'; 1024]?;
+    // They are those of one chunk, and each comes back from the other place.
     let steps: &[u8] = b"\
         cpu 0\n\
         a x big\nw x 16 ff\nw x 4112 ff\nf x\nflush big\ntrim big\n\

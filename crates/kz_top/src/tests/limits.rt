@@ -143,70 +143,79 @@ fn unions_up_to_eight_deep(rt: HostRuntime) -> Result<(), Fail> {
     Ok(())
 }
 
+/// Lines before a long one, its front, the 8 bytes that it repeats, its rest, and what is told.
+type LongLine = (
+    &'static [u8],
+    &'static [u8],
+    &'static [u8],
+    &'static [u8],
+    &'static [u8],
+);
+
+const LONG_LINES: [LongLine; 10] = [
+    (b"", b"", b"        ", b"\n", b"kzone: line 1: bad line\n"),
+    (b"", b"", b"machine ", b"", b"kzone: line 1: truncated\n"),
+    (
+        b"",
+        b"machine ",
+        b"11111111",
+        b"\n",
+        b"kzone: line 1: bad number\n",
+    ),
+    (
+        HEADER,
+        b"type t ",
+        b"{ union ",
+        b"\n",
+        b"kzone: line 9: bad line\n",
+    ),
+    (
+        HEADER,
+        b"type t { ",
+        b"struct t",
+        b" }\n",
+        b"kzone: line 9: bad line\n",
+    ),
+    (
+        HEADER,
+        b"type t { u8 a[",
+        b"22222222",
+        b"] }\n",
+        b"kzone: line 9: bad number\n",
+    ),
+    (
+        STEPS,
+        b"a ",
+        b"xxxxxxxx",
+        b" proc\n",
+        b"kzone: line 11: bad line\n",
+    ),
+    (
+        STEPS,
+        b"r x ",
+        b"77777777",
+        b" 1\n",
+        b"kzone: line 11: bad number\n",
+    ),
+    (
+        STEPS,
+        b"w x 0 ",
+        b"ffffffff",
+        b"\n",
+        b"kzone: line 11: bad line\n",
+    ),
+    (
+        STEPS,
+        b"order\n",
+        b"00000000",
+        b"\n",
+        b"kzone: line 12: bad number\n",
+    ),
+];
+
 #[test]
 fn lines_of_a_megabyte(rt: HostRuntime) -> Result<(), Fail> {
-    // The lines before it, its front, the 8 bytes that it repeats, its rest, and what is told.
-    let rows: [(&[u8], &[u8], &[u8], &[u8], &[u8]); 10] = [
-        (b"", b"", b"        ", b"\n", b"kzone: line 1: bad line\n"),
-        (b"", b"", b"machine ", b"", b"kzone: line 1: truncated\n"),
-        (
-            b"",
-            b"machine ",
-            b"11111111",
-            b"\n",
-            b"kzone: line 1: bad number\n",
-        ),
-        (
-            HEADER,
-            b"type t ",
-            b"{ union ",
-            b"\n",
-            b"kzone: line 9: bad line\n",
-        ),
-        (
-            HEADER,
-            b"type t { ",
-            b"struct t",
-            b" }\n",
-            b"kzone: line 9: bad line\n",
-        ),
-        (
-            HEADER,
-            b"type t { u8 a[",
-            b"22222222",
-            b"] }\n",
-            b"kzone: line 9: bad number\n",
-        ),
-        (
-            STEPS,
-            b"a ",
-            b"xxxxxxxx",
-            b" proc\n",
-            b"kzone: line 11: bad line\n",
-        ),
-        (
-            STEPS,
-            b"r x ",
-            b"77777777",
-            b" 1\n",
-            b"kzone: line 11: bad number\n",
-        ),
-        (
-            STEPS,
-            b"w x 0 ",
-            b"ffffffff",
-            b"\n",
-            b"kzone: line 11: bad line\n",
-        ),
-        (
-            STEPS,
-            b"order\n",
-            b"00000000",
-            b"\n",
-            b"kzone: line 12: bad number\n",
-        ),
-    ];
-    for (before, front, piece, rest, told) in rows {
+    for (before, front, piece, rest, told) in LONG_LINES {
         assert!(rt; is_told(rt.alloc(), &[before, front], piece, rest, told)?);
     }
     Ok(())

@@ -1,4 +1,4 @@
-use Rattle.std.proofs.Common.{◌≡◌, ℕ, List, nat_le, unwrap_or, Option, ap, sym, ◌∙◌, subst}
+use Rattle.std.proofs.Common.{◌≡◌, ℕ, nat_le, unwrap_or, Option, ap, sym, ◌∙◌}
 use Rattle.std.specs.List.{position}
 use Rattle.kz_chunk.specs.Kept.{without}
 use Rattle.kz_chunk.proofs.Nearest.{nearest_taken, place_inside, rest_taken, taken_within}

@@ -6,12 +6,11 @@ use Rattle.kz_top.proofs.call.work_on_input.Goals as goal
 
 pub returns-in-Ok-clause-done : goal.returns-in-Ok-clause-done
 returns-in-Ok-clause-done g c words asks =
-    let P : List ℕ → Type 0 = λ items. IfSome (g.S.Source.rest c.args.input.now) (λ bytes. items ≡ bytes) in
-    work_finished words _ _ _ _ _ _ _ _ _ _ c.args.command c.as_slice.result.now
+    work_finished words _ _ _ _ _ _ _ _ _ _ c.args.command c.in-Ok.bytes.items
     (record {
       asks = asks;
-      taken = taken_input c.args.command (g.S.Source.rest c.args.input.now) c.as_slice.result.now c.requires (subst P (sym c.as_slice.ensures.value) c.in-Ok.ensures.whole);
-      few = omega (arith, c.in-Ok.bytes.ok, c.in-Ok.ensures.within, ap (λ (bytes : List ℕ). length bytes) c.as_slice.ensures.value);
+      taken = taken_input c.args.command (g.S.Source.rest c.args.input.now) c.in-Ok.bytes.items c.requires c.in-Ok.ensures.whole;
+      few = omega (arith, c.in-Ok.bytes.ok, c.in-Ok.ensures.within);
       later = c.in-Ok.ensures.later;
       sure = λ sure. (c.in-Ok.ensures.sure sure).1;
     })

@@ -1,4 +1,4 @@
-use Rattle.std.proofs.Common.{◌≡◌, ap, sym, ◌∙◌}
+use Rattle.std.proofs.Common.{ap, sym, ◌∙◌}
 use Rattle.kz_chunk.specs.Chunk.{Chunk}
 use Rattle.kz_chunk.proofs.Pieces.{map_keeps}
 use Rattle.kz_chunk.proofs.chunk.Chunk.map.Goals as goal

@@ -1,4 +1,4 @@
-use Rattle.std.proofs.Common.{◌≡◌, ◌<◌, Bool, true, ap, ◌∙◌, subst, sym, arith}
+use Rattle.std.proofs.Common.{◌≡◌, ◌<◌, ap, ◌∙◌, subst, sym, arith}
 use Rattle.kz_model.specs.Whole.{times_idle}
 use Rattle.kz_chunk.specs.Chunk.{Chunk}
 use Rattle.kz_chunk.proofs.InPlace.{room_for_one}

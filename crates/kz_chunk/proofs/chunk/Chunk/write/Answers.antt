@@ -1,4 +1,4 @@
-use Rattle.std.proofs.Common.{◌+◌, ◌≤◌, ap, length, ◌∙◌, arith}
+use Rattle.std.proofs.Common.{◌+◌, ap, ◌∙◌, arith}
 use Rattle.kz_frame.specs.Frames.{joined, written}
 use Rattle.kz_chunk.specs.Chunk.{first_of}
 use Rattle.kz_chunk.proofs.Pieces.{element_ends, write_seen}

@@ -1,4 +1,4 @@
-use Rattle.std.proofs.Common.{◌+◌, ◌≤◌, ap, length, replicate, ℕ, ◌∙◌, arith}
+use Rattle.std.proofs.Common.{replicate, ℕ, arith}
 use Rattle.std.proofs.lemmas.List.{length-replicate}
 use Rattle.kz_chunk.specs.Chunk.{first_of}
 use Rattle.kz_chunk.proofs.Pieces.{element_ends, write_seen}
