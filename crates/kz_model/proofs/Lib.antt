@@ -47,6 +47,7 @@ pub mod Sums
 pub mod Stocks
 pub mod Blocks
 pub mod PlayedAt
+pub mod Giving
 pub mod Prefixes
 pub mod OrderJournals
 pub mod OrderVisits
@@ -60,6 +61,7 @@ pub mod SharesGrow
 pub mod SharesExist
 mod ReadingRows
 pub mod Beside
+pub mod NameTable
 pub mod Shorts
 pub mod Briefs
 pub mod PlanRows

@@ -1,10 +1,14 @@
 -- What holds of a play is kept by each line of its order and each round's end.
-use Rattle.std.proofs.Common.{◌≡◌, ◌≢◌, ◌<◌, ◌≤◌, ℕ, zero, suc, ◌==◌, ◌+◌, ◌*◌, nat_lt, Bool, true, false, if◌then◌else◌, List, [], ◌∷◌, ◌++◌, length, take, drop, map, replicate, slice_index, slice_index_or, slice_set, None, Some, refl, ap, sym, ◌∙◌, subst, arith, length-append}
+use Rattle.std.proofs.Common.{◌≡◌, ◌≢◌, ◌<◌, ◌≤◌, ℕ, zero, suc, ◌==◌, ◌+◌, ◌*◌, nat_lt, nat_le, Bool, true, false, if◌then◌else◌, List, [], ◌∷◌, ◌++◌, length, take, drop, map, max, replicate, slice_index, slice_index_or, slice_set, None, Some, refl, ap, sym, ◌∙◌, subst, arith, length-append}
 use Rattle.std.specs.List.{filter_map, range_with_len, cons_option}
 use Rattle.std.proofs.lemmas.List.{append-nil, get_or-set_same, get_or-set_other, get_or-map, get_or_append_left, get_or_push, get_or_past, length-map, length-set, take_more, take-append-drop}
-use Rattle.std.proofs.lemmas.List.Elements.{All-get_or, filter_map-append}
+use Rattle.std.proofs.lemmas.List.Elements.{All-get_or, filter-append, filter_map-append}
 use Rattle.std.proofs.lemmas.List.FromFn.{get_or-map-range_with_len}
+use Rattle.std.proofs.lemmas.Nat.{mul-le}
+use Rattle.kz_model.specs.declared.bundle.Act.{Act}
+use Rattle.kz_model.specs.declared.bundle.Act.TheVariants as act
 use Rattle.kz_model.specs.declared.bundle.Bundle.{Bundle}
+use Rattle.kz_model.specs.declared.bundle.TraceStep.{TraceStep}
 use Rattle.kz_model.specs.declared.step.Step.{Step}
 use Rattle.kz_model.specs.declared.step.Reply.{Reply}
 use Rattle.kz_model.specs.declared.step.Reply.TheVariants as reply
@@ -18,20 +22,20 @@ use Rattle.kz_model.specs.declared.supply.Answer.{Answer}
 use Rattle.kz_model.specs.Zone.{Own, ZoneState, nothing_own, own_of}
 use Rattle.kz_model.specs.Rules.{Effect, needs_visit, effect_of, put_back, alone_step}
 use Rattle.kz_model.specs.Whole.{AreWithin, IsOwn, IsWhole}
-use Rattle.kz_model.specs.Amounts.{sum_below, mapped_count, pages_held, granted_in, returned_in, stock_of, carried_of, lines_there, lines_done, zone_lines_done}
+use Rattle.kz_model.specs.Amounts.{sum_below, mapped_count, pages_held, granted_in, returned_in, stock_of, carried_of, lines_there, lines_done, zone_lines_done, is_giving, giving, gifts_done, zone_gifts_done}
 use Rattle.kz_model.specs.Journal.{params_of, addressed, trace_of, steps_among, log_at, answers_at}
 use Rattle.kz_model.specs.Play.{ZonePlay, Play, no_play, zone_play, replies_so_far, line_to_play, zone_opened, play_opened, zone_after, effect_there, played, settling, zone_settled, round_ended}
 use Rattle.kz_model.specs.PlayedAt.{IsSupplied, IsReplyWithin, chunks_there, zone_of_line}
 use Rattle.kz_model.specs.PlayLaws.{HasElements}
 use Rattle.kz_model.specs.Report.{bases, page_of}
 use Rattle.kz_model.specs.Traces.{no_step}
-use Rattle.kz_model.proofs.Amounts.{Amounts, effect_amounts}
+use Rattle.kz_model.proofs.Amounts.{Amounts, new_gifts, effect_amounts}
 use Rattle.kz_model.proofs.Blocks.{within_more, reply_within}
 use Rattle.kz_model.proofs.OrderLines.{steps_among-append, entries, entries_there, answers_at-append, new_answers, are_new}
 use Rattle.kz_model.proofs.OrderRuns.{same_number, other_number}
 use Rattle.kz_model.proofs.Played.{asks_there, part_there, effect_is}
 use Rattle.kz_model.proofs.Stocks.{entries_answers, entries_long, supplies, log_here, log_elsewhere, log_at-append, granted_in-append, returned_in-append}
-use Rattle.kz_model.proofs.Sums.{sum_below-same, sum_below-zero, sum_below-set}
+use Rattle.kz_model.proofs.Sums.{sum_below-same, sum_below-zero, sum_below-one, sum_below-set, sum_below-lt}
 use Rattle.kz_model.proofs.TraceRounds.{filter_map_push}
 use Rattle.kz_model.proofs.Undelayed.{mine_or_other}
 use Rattle.kz_model.proofs.WholeKept.{whole_opening, whole_step}
@@ -43,8 +47,9 @@ pub record IsSound (b : Bundle) (plan : Plan) (s : Play) (zone : ℕ) (z : ZoneP
   pub pages : (params_of b plan zone).pages * mapped_count z.state.shared.chunks + returned_in (log_at zone s.log) ≡ granted_in (log_at zone s.log)
   pub bases_long : length (bases zone s.log) ≡ length z.state.shared.chunks
   pub chunks : length z.state.shared.chunks ≤ zone_lines_done b plan s zone
+  pub framed : (params_of b plan zone).pages * length z.state.shared.chunks ≤ b.frames
   pub entries_few : length (log_at zone s.log) + mapped_count z.state.shared.chunks ≤ 2 * zone_lines_done b plan s zone
-  pub gifts : length z.state.shared.transit ≤ zone_lines_done b plan s zone
+  pub gifts : length z.state.shared.transit ≤ zone_gifts_done b plan s zone
   pub visits : length z.visits + sum_below (slice_index z.late) b.cpus ≤ zone_lines_done b plan s zone
   pub carried : (cpu : ℕ) → cpu < b.cpus → carried_of cpu z.visits + slice_index z.late cpu ≡ lines_done b plan s zone cpu
 
@@ -52,17 +57,23 @@ pub record IsSound (b : Bundle) (plan : Plan) (s : Play) (zone : ℕ) (z : ZoneP
 abbrev pub AreBlocks : Bundle → Plan → Play → Type 0
 AreBlocks b plan s = (cpu k : ℕ) → cpu < b.cpus → k < length (replies_so_far s cpu) → IsReplyWithin (chunks_there s (zone_of_line b plan cpu k)) (slice_index_or (replies_so_far s cpu) k reply.Done)
 
+-- each frame is free or in a mapped chunk
+abbrev pub AreFrames : Bundle → Plan → Play → Type 0
+AreFrames b plan s = (stock_of b s.log).free + sum_below (pages_held b plan s) (length plan.zones) ≡ b.frames
+
 -- with the same entries of the log and the same lines done
-sound_same : (b : Bundle) (plan : Plan) (s t : Play) (zone : ℕ) (z : ZonePlay) → log_at zone t.log ≡ log_at zone s.log → ((cpu : ℕ) → cpu < b.cpus → lines_done b plan t zone cpu ≡ lines_done b plan s zone cpu) → IsSound b plan s zone z → IsSound b plan t zone z
-sound_same b plan s t zone z log lines is =
+sound_same : (b : Bundle) (plan : Plan) (s t : Play) (zone : ℕ) (z : ZonePlay) → log_at zone t.log ≡ log_at zone s.log → ((cpu : ℕ) → cpu < b.cpus → lines_done b plan t zone cpu ≡ lines_done b plan s zone cpu) → ((cpu : ℕ) → cpu < b.cpus → gifts_done b plan t zone cpu ≡ gifts_done b plan s zone cpu) → IsSound b plan s zone z → IsSound b plan t zone z
+sound_same b plan s t zone z log lines gifts is =
     let done : zone_lines_done b plan t zone ≡ zone_lines_done b plan s zone = sum_below-same (lines_done b plan t zone) (lines_done b plan s zone) b.cpus lines in
+    let given : zone_gifts_done b plan t zone ≡ zone_gifts_done b plan s zone = sum_below-same (gifts_done b plan t zone) (gifts_done b plan s zone) b.cpus gifts in
     record {
       whole = is.whole;
       pages = subst (λ (l : List SupplyEntry). (params_of b plan zone).pages * mapped_count z.state.shared.chunks + returned_in l ≡ granted_in l) (sym log) is.pages;
       bases_long = ap (λ (l : List SupplyEntry). length (filter_map page_of (map (λ (entry : SupplyEntry). entry.answer) l))) log ∙ is.bases_long;
       chunks = subst (λ n. length z.state.shared.chunks ≤ n) (sym done) is.chunks;
+      framed = is.framed;
       entries_few = subst (λ n. length (log_at zone t.log) + mapped_count z.state.shared.chunks ≤ 2 * n) (sym done) (subst (λ (l : List SupplyEntry). length l + mapped_count z.state.shared.chunks ≤ 2 * zone_lines_done b plan s zone) (sym log) is.entries_few);
-      gifts = subst (λ n. length z.state.shared.transit ≤ n) (sym done) is.gifts;
+      gifts = subst (λ n. length z.state.shared.transit ≤ n) (sym given) is.gifts;
       visits = subst (λ n. length z.visits + sum_below (slice_index z.late) b.cpus ≤ n) (sym done) is.visits;
       carried = λ cpu lt. is.carried cpu lt ∙ sym (lines cpu lt);
     }
@@ -77,15 +88,87 @@ one_visit cpu v test is = ap (λ t. (if t then v.count else 0) + 0) is ∙ plain
     plain : (n : ℕ) → n + 0 ≡ n
     plain n = omega arith
 
-pub lines_within : (b : Bundle) (plan : Plan) (s : Play) (zone cpu : ℕ) → lines_done b plan s zone cpu ≤ lines_there b plan zone cpu
-lines_within b plan s zone cpu =
+-- pages for one of two numbers of chunks
+fit_max : (pages m n k frames : ℕ) → k ≤ max m n → pages * m ≤ frames → pages * n ≤ frames → pages * k ≤ frames
+fit_max pages m n k frames le first second =
+    elim (nat_le k m) as (λ b. nat_le k m ≡ b → pages * k ≤ frames) [
+      | true ↦ λ e. let few : k ≤ m = grind arith in omega (arith, mul-le pages k pages m (omega arith) few)
+      | false ↦ λ e. let few : k ≤ n = grind arith in omega (arith, mul-le pages k pages n (omega arith) few)
+    ] refl
+
+-- ---- counts of lines
+
+-- a count of lines that adds up
+abbrev pub Adds : (List TraceStep → ℕ) → Type 0
+Adds count = (xs ys : List TraceStep) → count (xs ++ ys) ≡ count xs + count ys
+
+count_within : (count : List TraceStep → ℕ) → Adds count → (lines : List TraceStep) (n : ℕ) → count (take n lines) ≤ count lines
+count_within count adds lines n = omega (arith, ap count (take-append-drop n lines), adds (take n lines) (drop n lines))
+
+count_more : (count : List TraceStep → ℕ) → Adds count → (lines : List TraceStep) (n : ℕ) → n < length lines → count (take (n + 1) lines) ≡ count (take n lines) + count (slice_index_or lines n no_step ∷ [])
+count_more count adds lines n lt = ap count (take_more lines n no_step lt) ∙ adds (take n lines) (slice_index_or lines n no_step ∷ [])
+
+-- that of the lines of a CPU that are done
+abbrev pub so_far : (List TraceStep → ℕ) → Bundle → Play → ℕ → ℕ
+so_far count b s cpu = count (take (length (replies_so_far s cpu)) (trace_of b cpu))
+
+-- where a CPU's next line counts, not all are done
+pub count_left : (count : List TraceStep → ℕ) → Adds count → (b : Bundle) (s : Play) (cpu : ℕ) → cpu < b.cpus → length (replies_so_far s cpu) < length (trace_of b cpu) → 0 < count (line_to_play b s cpu ∷ []) →
+    sum_below (so_far count b s) b.cpus < sum_below (λ cpu. count (trace_of b cpu)) b.cpus
+count_left count adds b s cpu lt some counts =
     let n = length (replies_so_far s cpu) in
-    let trace = trace_of b cpu in
-    let done = steps_among b plan zone (take n trace) in
-    let rest = steps_among b plan zone (drop n trace) in
-    let all : length (steps_among b plan zone trace) ≡ length done + length rest =
-    ap (λ lines. length (steps_among b plan zone lines)) (sym (take-append-drop n trace)) ∙ ap (λ (l : List Step). length l) (steps_among-append b plan zone (take n trace) (drop n trace)) ∙ length-append done rest in
-    omega (arith, all)
+    sum_below-lt (so_far count b s) (λ cpu. count (trace_of b cpu)) b.cpus cpu lt
+    (omega (arith, counts, count_more count adds (trace_of b cpu) n some, count_within count adds (trace_of b cpu) (n + 1)))
+    (λ other in'. count_within count adds (trace_of b other) (length (replies_so_far s other)))
+
+-- how many of these lines are on a zone, and how many of those give a block away
+abbrev pub lines_on : Bundle → Plan → ℕ → List TraceStep → ℕ
+lines_on b plan zone lines = length (steps_among b plan zone lines)
+
+abbrev pub gifts_on : Bundle → Plan → ℕ → List TraceStep → ℕ
+gifts_on b plan zone lines = lines_on b plan zone (giving lines)
+
+pub lines_add : (b : Bundle) (plan : Plan) (zone : ℕ) → Adds (lines_on b plan zone)
+lines_add b plan zone xs ys = ap (λ (l : List Step). length l) (steps_among-append b plan zone xs ys) ∙ length-append (steps_among b plan zone xs) (steps_among b plan zone ys)
+
+pub gifts_add : (b : Bundle) (plan : Plan) (zone : ℕ) → Adds (gifts_on b plan zone)
+gifts_add b plan zone xs ys = ap (lines_on b plan zone) (filter-append (λ (line : TraceStep). is_giving line.act) xs ys) ∙ lines_add b plan zone (giving xs) (giving ys)
+
+-- one line, on its zone and on others
+pub line_here : (b : Bundle) (plan : Plan) (line : TraceStep) → lines_on b plan (addressed b plan line.act).0 (line ∷ []) ≡ 1
+line_here b plan line = let there = addressed b plan line.act in ap (λ t. length (if t then there.1 ∷ [] else [])) (same_number there.0)
+
+line_away : (b : Bundle) (plan : Plan) (zone : ℕ) (line : TraceStep) → zone ≢ (addressed b plan line.act).0 → lines_on b plan zone (line ∷ []) ≡ 0
+line_away b plan zone line ne = let there = addressed b plan line.act in ap (λ t. length (if t then there.1 ∷ [] else [])) (other_number there.0 zone ne)
+
+pub gift_here : (b : Bundle) (plan : Plan) (line : TraceStep) → gifts_on b plan (addressed b plan line.act).0 (line ∷ []) ≡ (if is_giving line.act then 1 else 0)
+gift_here b plan line =
+    elim (is_giving line.act) as (λ g. lines_on b plan (addressed b plan line.act).0 (if g then line ∷ [] else []) ≡ (if g then 1 else 0)) [
+      | true ↦ line_here b plan line
+      | false ↦ refl
+    ]
+
+-- no more lines give a block away than there are
+pub giving_few : (b : Bundle) (plan : Plan) (zone : ℕ) (lines : List TraceStep) → gifts_on b plan zone lines ≤ lines_on b plan zone lines
+giving_few b plan zone [] = omega arith
+giving_few b plan zone (line ∷ lines) =
+    let there = addressed b plan line.act in
+    let few = giving_few b plan zone lines in
+    let gifts = steps_among b plan zone (giving lines) in
+    let all = steps_among b plan zone lines in
+    elim (is_giving line.act) as (λ g. lines_on b plan zone (if g then line ∷ giving lines else giving lines) ≤ length (if there.0 == zone then there.1 ∷ all else all)) [
+      | true ↦ elim (there.0 == zone) as (λ t. length (if t then there.1 ∷ gifts else gifts) ≤ length (if t then there.1 ∷ all else all)) [ true ↦ omega (arith, few) | false ↦ few ]
+      | false ↦ elim (there.0 == zone) as (λ t. length gifts ≤ length (if t then there.1 ∷ all else all)) [ true ↦ omega (arith, few) | false ↦ few ]
+    ]
+
+-- its step adds a gift where the line gives a block away
+gives : (b : Bundle) (plan : Plan) (line : Act) → new_gifts (addressed b plan line).1 ≡ (if is_giving line then 1 else 0)
+gives b plan (act.Free name None) = refl
+gives b plan (act.Free name (Some of)) = refl
+gives b plan line = refl
+
+pub lines_within : (b : Bundle) (plan : Plan) (s : Play) (zone cpu : ℕ) → lines_done b plan s zone cpu ≤ lines_there b plan zone cpu
+lines_within b plan s zone cpu = count_within (lines_on b plan zone) (lines_add b plan zone) (trace_of b cpu) (length (replies_so_far s cpu))
 
 -- ---- one more line
 
@@ -146,38 +229,43 @@ module _ (b : Bundle) (plan : Plan) (s : Play) (cpu : ℕ) (elements : HasElemen
       ap (λ (l : List Reply). length l) (get_or-set_same s.replies cpu (replies_so_far s cpu ++ effect.reply ∷ []) [] (subst (λ n. cpu < n) (sym cpus_long) lt))
       ∙ length-append (replies_so_far s cpu) (effect.reply ∷ [])
 
-  steps_more : (zone : ℕ) → lines_done b plan t zone cpu ≡ lines_done b plan s zone cpu + (if at == zone then 1 else 0)
-  steps_more zone =
-      let trace = trace_of b cpu in
-      let n = length (replies_so_far s cpu) in
-      ap (λ n. length (steps_among b plan zone (take n trace))) replies_mine
-      ∙ ap (λ lines. length (steps_among b plan zone lines)) (take_more trace n no_step some)
-      ∙ ap (λ (l : List Step). length l) (steps_among-append b plan zone (take n trace) (line_to_play b s cpu ∷ []))
-      ∙ length-append (steps_among b plan zone (take n trace)) (steps_among b plan zone (line_to_play b s cpu ∷ []))
-      ∙ ap (λ n. lines_done b plan s zone cpu + n) (elim (at == zone) as (λ t. length (if t then step ∷ [] else []) ≡ (if t then 1 else 0)) [ true ↦ refl | false ↦ refl ])
+  module _ (count : List TraceStep → ℕ) (adds : Adds count) where
+    abbrev one : ℕ
+    one = count (line_to_play b s cpu ∷ [])
+
+    count_mine : so_far count b t cpu ≡ so_far count b s cpu + one
+    count_mine = ap (λ n. count (take n (trace_of b cpu))) replies_mine ∙ count_more count adds (trace_of b cpu) (length (replies_so_far s cpu)) some
+
+    count_other : (other : ℕ) → other ≢ cpu → so_far count b t other ≡ so_far count b s other
+    count_other other ne = ap (λ (l : List Reply). count (take (length l) (trace_of b other))) (get_or-set_other s.replies cpu other (replies_so_far s cpu ++ effect.reply ∷ []) [] ne)
+
+    count_none : one ≡ 0 → (other : ℕ) → so_far count b t other ≡ so_far count b s other
+    count_none none other = mine_or_other (λ other. so_far count b t other ≡ so_far count b s other) cpu other (omega (arith, count_mine, none)) (λ ne. count_other other ne)
+
+    count_all : sum_below (so_far count b t) b.cpus ≡ sum_below (so_far count b s) b.cpus + one
+    count_all = omega (arith, sum_below-set (so_far count b s) (so_far count b t) b.cpus cpu lt (λ other lt ne. count_other other ne), count_mine)
 
   done_mine : lines_done b plan t at cpu ≡ lines_done b plan s at cpu + 1
-  done_mine = steps_more at ∙ ap (λ t. lines_done b plan s at cpu + (if t then 1 else 0)) (same_number at)
+  done_mine = count_mine (lines_on b plan at) (lines_add b plan at) ∙ ap (λ n. lines_done b plan s at cpu + n) (line_here b plan (line_to_play b s cpu))
 
-  done_other : (zone other : ℕ) → other ≢ cpu → lines_done b plan t zone other ≡ lines_done b plan s zone other
-  done_other zone other ne = ap (λ (l : List Reply). length (steps_among b plan zone (take (length l) (trace_of b other)))) (get_or-set_other s.replies cpu other (replies_so_far s cpu ++ effect.reply ∷ []) [] ne)
+  done_other : (other : ℕ) → other ≢ cpu → lines_done b plan t at other ≡ lines_done b plan s at other
+  done_other = count_other (lines_on b plan at) (lines_add b plan at)
 
   done_away : (zone other : ℕ) → zone ≢ at → lines_done b plan t zone other ≡ lines_done b plan s zone other
-  done_away zone other ne =
-      mine_or_other (λ other. lines_done b plan t zone other ≡ lines_done b plan s zone other) cpu other
-      (steps_more zone ∙ ap (λ t. lines_done b plan s zone cpu + (if t then 1 else 0)) (other_number at zone ne) ∙ plain (lines_done b plan s zone cpu))
-      (λ ne. done_other zone other ne)
-    where
-      plain : (n : ℕ) → n + 0 ≡ n
-      plain n = omega arith
+  done_away zone other ne = count_none (lines_on b plan zone) (lines_add b plan zone) (line_away b plan zone (line_to_play b s cpu) ne) other
+
+  gifts_away : (zone other : ℕ) → zone ≢ at → gifts_done b plan t zone other ≡ gifts_done b plan s zone other
+  gifts_away zone other ne =
+      let none : gifts_on b plan zone (line_to_play b s cpu ∷ []) ≡ 0 = omega (arith, giving_few b plan zone (line_to_play b s cpu ∷ []), line_away b plan zone (line_to_play b s cpu) ne) in
+      count_none (gifts_on b plan zone) (gifts_add b plan zone) none other
 
   all_done : zone_lines_done b plan t at ≡ zone_lines_done b plan s at + 1
-  all_done =
-      one_more (zone_lines_done b plan t at) (zone_lines_done b plan s at) (lines_done b plan s at cpu) (lines_done b plan t at cpu)
-      (sum_below-set (lines_done b plan s at) (lines_done b plan t at) b.cpus cpu lt (λ other lt ne. done_other at other ne)) done_mine
-    where
-      one_more : (m n k l : ℕ) → m + k ≡ n + l → l ≡ k + 1 → m ≡ n + 1
-      one_more m n k l e f = omega arith
+  all_done = count_all (lines_on b plan at) (lines_add b plan at) ∙ ap (λ n. zone_lines_done b plan s at + n) (line_here b plan (line_to_play b s cpu))
+
+  all_given : zone_gifts_done b plan t at ≡ zone_gifts_done b plan s at + new_gifts step
+  all_given =
+      count_all (gifts_on b plan at) (gifts_add b plan at)
+      ∙ ap (λ n. zone_gifts_done b plan s at + n) (gift_here b plan (line_to_play b s cpu) ∙ sym (gives b plan (line_to_play b s cpu).act))
 
   -- the entries of the log
 
@@ -192,8 +280,8 @@ module _ (b : Bundle) (plan : Plan) (s : Play) (cpu : ℕ) (elements : HasElemen
   effect_given : effect ≡ effect_of p z.state.shared cpu (own_of z.state cpu) step given
   effect_given = ap (λ (answers : List Answer). effect_of p z.state.shared cpu (own_of z.state cpu) step answers) (entries_answers at asks given long)
 
-  amounts : Amounts p at z.state.shared effect.shared asks given
-  amounts = subst (λ (e : Effect). Amounts p at z.state.shared e.shared asks given) (sym effect_given) (effect_amounts p at z.state.shared cpu (own_of z.state cpu) step given (are_new b s.log asks).all long)
+  amounts : Amounts p at z.state.shared effect.shared asks given (new_gifts step)
+  amounts = subst (λ (e : Effect). Amounts p at z.state.shared e.shared asks given (new_gifts step)) (sym effect_given) (effect_amounts p at z.state.shared cpu (own_of z.state cpu) step given (are_new b s.log asks).all long)
 
   some_elements : 0 < p.count
   some_elements = All-get_or (λ (row : ZoneRow). 0 < row.shape.count) plan.zones at _ in-zones elements
@@ -205,9 +293,35 @@ module _ (b : Bundle) (plan : Plan) (s : Play) (cpu : ℕ) (elements : HasElemen
       let same : after.state ≡ o.state = ap (λ (e : Effect). let st : ZoneState = record { shared = e.shared; own = slice_set z.state.own cpu e.own } in st) (effect_is b p s.log at cpu step z.state) in
       subst (IsWhole p) (sym same) (whole_step p z.state cpu step given o some_elements magazine lt whole made)
 
+  -- frames
+
+  pub line_supplied : IsSupplied b plan t.log
+  line_supplied = (supplies b plan s.log at asks in-zones supplied).supplied
+
+  held_after : pages_held b plan t at ≡ p.pages * mapped_count effect.shared.chunks
+  held_after = ap (λ (z : ZonePlay). p.pages * mapped_count z.state.shared.chunks) after_is
+
+  pub line_frames : AreFrames b plan s → AreFrames b plan t
+  line_frames all =
+      let free = (supplies b plan s.log at asks in-zones supplied).free in
+      let sums = sum_below-set (pages_held b plan s) (pages_held b plan t) (length plan.zones) at in-zones (λ zone lt ne. ap (λ (z : ZonePlay). (params_of b plan zone).pages * mapped_count z.state.shared.chunks) (away_is zone ne)) in
+      numbers (stock_of b s.log).free (stock_of b t.log).free (granted_in new) (returned_in new) (sum_below (pages_held b plan s) (length plan.zones)) (sum_below (pages_held b plan t) (length plan.zones))
+      (pages_held b plan s at) (pages_held b plan t at) (p.pages * mapped_count effect.shared.chunks) free sums held_after amounts.pages all
+    where
+      numbers : (free next g r f h m held n : ℕ) → next + g ≡ free + r → h + m ≡ f + held → held ≡ n → n + r ≡ m + g → free + f ≡ b.frames → next + h ≡ b.frames
+      numbers free next g r f h m held n a c d e all = omega arith
+
+  mapped_framed : AreFrames b plan s → p.pages * mapped_count effect.shared.chunks ≤ b.frames
+  mapped_framed all =
+      one_part (stock_of b t.log).free (sum_below (pages_held b plan t) (length plan.zones)) (pages_held b plan t at) (p.pages * mapped_count effect.shared.chunks)
+      (line_frames all) (sum_below-one (pages_held b plan t) (length plan.zones) at in-zones) held_after
+    where
+      one_part : (free h held n : ℕ) → free + h ≡ b.frames → held ≤ h → held ≡ n → n ≤ b.frames
+      one_part free h held n all le e = omega arith
+
   -- the zone of the line
 
-  module _ (is : IsSound b plan s at z) (late_long : length z.late ≡ b.cpus) where
+  module _ (is : IsSound b plan s at z) (late_long : length z.late ≡ b.cpus) (all : AreFrames b plan s) where
     late_mine : slice_index after.late cpu ≡ (if needs then 0 else lates + 1)
     late_mine = get_or-set_same z.late cpu (if needs then 0 else lates + 1) 0 (subst (λ n. cpu < n) (sym late_long) lt)
 
@@ -256,19 +370,20 @@ module _ (b : Bundle) (plan : Plan) (s : Play) (cpu : ℕ) (elements : HasElemen
           pages = subst (λ (l : List SupplyEntry). p.pages * mapped_count after.state.shared.chunks + returned_in l ≡ granted_in l) (sym log_mine) (omega (arith, is.pages, amounts.pages, granted_in-append log new, returned_in-append log new));
           bases_long = bases_after;
           chunks = omega (arith, is.chunks, amounts.chunks_few, all_done);
+          framed = fit_max p.pages (length z.state.shared.chunks) (mapped_count effect.shared.chunks) (length effect.shared.chunks) b.frames amounts.full is.framed (mapped_framed all);
           entries_few = subst (λ (l : List SupplyEntry). length l + mapped_count after.state.shared.chunks ≤ 2 * zone_lines_done b plan t at) (sym log_mine)
               (omega (arith, is.entries_few, amounts.entries_few, length-append log new, entries_long at asks given long, all_done));
-          gifts = omega (arith, is.gifts, amounts.transit, all_done);
+          gifts = omega (arith, is.gifts, amounts.transit, all_given);
           visits = subst (λ n. length after.visits + sum_below (slice_index after.late) b.cpus ≤ n) (sym all_done) visits_after;
           carried = λ other in'. mine_or_other (λ other. other < b.cpus → carried_of other after.visits + slice_index after.late other ≡ lines_done b plan t at other) cpu other
-              (λ in'. carried_mine ∙ sym done_mine) (λ ne in'. carried_other other ne in' ∙ sym (done_other at other ne)) in';
+              (λ in'. carried_mine ∙ sym done_mine) (λ ne in'. carried_other other ne in' ∙ sym (done_other other ne)) in';
         }
 
-  pub line_sound : ((zone : ℕ) → zone < length plan.zones → IsSound b plan s zone (zone_play s zone)) → length z.late ≡ b.cpus → (zone : ℕ) → zone < length plan.zones → IsSound b plan t zone (zone_play t zone)
-  line_sound each late_long zone in' =
+  pub line_sound : ((zone : ℕ) → zone < length plan.zones → IsSound b plan s zone (zone_play s zone)) → length z.late ≡ b.cpus → AreFrames b plan s → (zone : ℕ) → zone < length plan.zones → IsSound b plan t zone (zone_play t zone)
+  line_sound each late_long all zone in' =
       mine_or_other (λ zone. zone < length plan.zones → IsSound b plan t zone (zone_play t zone)) at zone
-      (λ in'. subst (IsSound b plan t at) (sym after_is) (sound_here (each at in') late_long))
-      (λ ne in'. subst (IsSound b plan t zone) (sym (away_is zone ne)) (sound_same b plan s t zone (zone_play s zone) (log_away zone ne) (λ other lt. done_away zone other ne) (each zone in'))) in'
+      (λ in'. subst (IsSound b plan t at) (sym after_is) (sound_here (each at in') late_long all))
+      (λ ne in'. subst (IsSound b plan t zone) (sym (away_is zone ne)) (sound_same b plan s t zone (zone_play s zone) (log_away zone ne) (λ other lt. done_away zone other ne) (λ other lt. gifts_away zone other ne) (each zone in'))) in'
 
   -- blocks
 
@@ -316,22 +431,6 @@ module _ (b : Bundle) (plan : Plan) (s : Play) (cpu : ℕ) (elements : HasElemen
     where
       newest_is : (k n : ℕ) → k < n + 1 → nat_lt k n ≡ false → n ≡ k
       newest_is k n lt e = grind arith
-
-  -- frames
-
-  pub line_supplied : IsSupplied b plan t.log
-  line_supplied = (supplies b plan s.log at asks in-zones supplied).supplied
-
-  pub line_frames : (stock_of b s.log).free + sum_below (pages_held b plan s) (length plan.zones) ≡ b.frames → (stock_of b t.log).free + sum_below (pages_held b plan t) (length plan.zones) ≡ b.frames
-  line_frames all =
-      let free = (supplies b plan s.log at asks in-zones supplied).free in
-      let held : pages_held b plan t at ≡ p.pages * mapped_count effect.shared.chunks = ap (λ (z : ZonePlay). p.pages * mapped_count z.state.shared.chunks) after_is in
-      let sums = sum_below-set (pages_held b plan s) (pages_held b plan t) (length plan.zones) at in-zones (λ zone lt ne. ap (λ (z : ZonePlay). (params_of b plan zone).pages * mapped_count z.state.shared.chunks) (away_is zone ne)) in
-      numbers (stock_of b s.log).free (stock_of b t.log).free (granted_in new) (returned_in new) (sum_below (pages_held b plan s) (length plan.zones)) (sum_below (pages_held b plan t) (length plan.zones))
-      (pages_held b plan s at) (pages_held b plan t at) (p.pages * mapped_count effect.shared.chunks) free sums held amounts.pages all
-    where
-      numbers : (free next g r f h m held n : ℕ) → next + g ≡ free + r → h + m ≡ f + held → held ≡ n → n + r ≡ m + g → free + f ≡ b.frames → next + h ≡ b.frames
-      numbers free next g r f h m held n a c d e all = omega arith
 
 -- ---- a round's end
 
@@ -393,6 +492,7 @@ zone_round_sound b plan s zone z is =
       pages = is.pages;
       bases_long = is.bases_long;
       chunks = is.chunks;
+      framed = is.framed;
       entries_few = is.entries_few;
       gifts = is.gifts;
       visits = omega (arith, is.visits, length-append z.visits new, settle_long s.round z.late b.cpus, sum_below-zero (slice_index (replicate b.cpus 0)) b.cpus (λ k lt. zero_at b.cpus k));
@@ -451,6 +551,7 @@ opening_sound b plan zone lt =
       pages = no_pages p.pages;
       bases_long = refl;
       chunks = omega arith;
+      framed = no_frames p.pages;
       entries_few = omega arith;
       gifts = omega arith;
       visits = nothing (sum_below-zero (slice_index (replicate b.cpus 0)) b.cpus (λ k lt. zero_at b.cpus k));
@@ -462,6 +563,9 @@ opening_sound b plan zone lt =
 
     no_pages : (n : ℕ) → n * 0 + 0 ≡ 0
     no_pages n = omega arith
+
+    no_frames : (n : ℕ) → n * 0 ≤ b.frames
+    no_frames n = omega arith
 
     nothing : {n m : ℕ} → n ≡ 0 → 0 + n ≤ m
     nothing e = omega arith

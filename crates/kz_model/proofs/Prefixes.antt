@@ -1,8 +1,8 @@
 -- What holds of a play after the first lines of its order, and at its end.
-use Rattle.std.proofs.Common.{◌≡◌, ◌<◌, ◌≤◌, ℕ, zero, suc, ◌==◌, ◌+◌, ◌-◌, true, false, if◌then◌else◌, List, [], ◌∷◌, ◌++◌, length, take, drop, map, slice_index, slice_index_or, slice_set, refl, ap, sym, ◌∙◌, subst, arith, sum_by}
+use Rattle.std.proofs.Common.{◌≡◌, ◌<◌, ◌≤◌, ℕ, zero, suc, ◌==◌, ◌+◌, ◌-◌, true, false, if◌then◌else◌, List, [], ◌∷◌, ◌++◌, length, take, map, slice_index, slice_index_or, slice_set, refl, ap, sym, ◌∙◌, subst, arith, sum_by}
 use Rattle.std.specs.List.{fold, zip}
 use Rattle.std.proofs.lemmas.List.Sums.{sum_by_more}
-use Rattle.std.proofs.lemmas.List.{append-nil, get_or-map, take_all, length-map, length-replicate, take-append-drop, drop_more}
+use Rattle.std.proofs.lemmas.List.{append-nil, get_or-map, take_all, length-map, length-replicate}
 use Rattle.std.proofs.lemmas.List.Elements.{All-get_or, filter_passes}
 use Rattle.kz_model.specs.declared.bundle.Bundle.{Bundle}
 use Rattle.kz_model.specs.declared.bundle.TraceStep.{TraceStep}
@@ -15,7 +15,7 @@ use Rattle.kz_model.specs.declared.supply.Ask.{Ask}
 use Rattle.kz_model.specs.declared.supply.Answer.{Answer}
 use Rattle.kz_model.specs.Zone.{ZoneState, opening}
 use Rattle.kz_model.specs.Alone.{course}
-use Rattle.kz_model.specs.Amounts.{sum_below, pages_held, stock_of, lines_there, lines_done, zone_lines}
+use Rattle.kz_model.specs.Amounts.{sum_below, stock_of, lines_there, lines_done, zone_lines}
 use Rattle.kz_model.specs.Journal.{params_of, addressed, trace_of, lines_of_round, steps_among, spell_after, answers_at}
 use Rattle.kz_model.specs.Late.{IsDelayed}
 use Rattle.kz_model.specs.Order.{Progress, started, late, order_of, order_step, answered, next_line}
@@ -23,17 +23,16 @@ use Rattle.kz_model.specs.Play.{ZonePlay, Play, no_play, zone_play, replies_so_f
 use Rattle.kz_model.specs.PlayedAt.{IsBehind, IsZonePlayed, IsSupplied, IsPlaySound, IsPlayedAt, HasTurn, order_so_far}
 use Rattle.kz_model.specs.PlayLaws.{HasZones, HasElements}
 use Rattle.kz_model.specs.Supply.{answers_from}
-use Rattle.kz_model.specs.Traces.{no_step}
 use Rattle.kz_model.specs.Turns.{counts_in, is_of_round}
 use Rattle.kz_model.specs.Valid.{IsValid}
 use Rattle.kz_model.proofs.InTurn.{turn_of_cpu, next_within}
 use Rattle.kz_model.proofs.OrderLines.{entries}
 use Rattle.kz_model.proofs.Played.{Told, IsBeside, late_count, more_told}
-use Rattle.kz_model.proofs.PlayedAt.{IsSound, AreBlocks, lines_within, line_sound, line_supplied, line_blocks, line_frames, round_sound, round_blocks, round_frames, opening_sound, opening_blocks, opening_frames}
-use Rattle.kz_model.proofs.PlayedReplies.{step_within, replies_long, same_line}
+use Rattle.kz_model.proofs.PlayedAt.{IsSound, AreBlocks, AreFrames, lines_on, lines_add, line_here, lines_within, count_left, line_sound, line_supplied, line_blocks, line_frames, round_sound, round_blocks, round_frames, opening_sound, opening_blocks, opening_frames}
+use Rattle.kz_model.proofs.PlayedReplies.{replies_long, same_line}
 use Rattle.kz_model.proofs.PlayedRuns.{IsGoing, line_goes, round_goes, nothing_told, going_at_start, goes_so_far}
 use Rattle.kz_model.proofs.Stocks.{new_are, supplied_at_start}
-use Rattle.kz_model.proofs.Sums.{sum_below-le, sum_below-lt}
+use Rattle.kz_model.proofs.Sums.{sum_below-le}
 use Rattle.kz_model.proofs.TraceRounds.{is_placed}
 
 -- ---- a turn
@@ -55,7 +54,7 @@ turn_here b plan valid zones g s told left cpu more going =
       some = some;
       in_round = ap (λ (line : TraceStep). line.round) same ∙ equal (next_line b cpu g).round g.round passes ∙ sym going.beside.round;
       in_zones = subst (λ (line : TraceStep). (addressed b plan line.act).0 < length plan.zones) (sym same) (next_within b plan g cpu valid zones turn.1);
-      more = sum_below-lt (lines_done b plan s zone) (lines_there b plan zone) b.cpus cpu lt (one_more some) (λ other in'. lines_within b plan s zone other);
+      more = count_left (lines_on b plan zone) (lines_add b plan zone) b s cpu lt some (omega (arith, line_here b plan (line_to_play b s cpu)));
     }
   where
     few : (n m : ℕ) → n < m → n ≤ m
@@ -64,22 +63,13 @@ turn_here b plan valid zones g s told left cpu more going =
     equal : (n m : ℕ) → (n == m) ≡ true → n ≡ m
     equal n m e = grind arith
 
-    one_more : length (replies_so_far s cpu) < length (trace_of b cpu) → let zone = (addressed b plan (line_to_play b s cpu).act).0 in lines_done b plan s zone cpu < lines_there b plan zone cpu
-    one_more some =
-        let n = length (replies_so_far s cpu) in
-        let trace = trace_of b cpu in
-        let line = line_to_play b s cpu in
-        let zone = (addressed b plan line.act).0 in
-        let all : take n trace ++ line ∷ drop (n + 1) trace ≡ trace = ap (λ (rest : List TraceStep). take n trace ++ rest) (sym (drop_more trace n no_step some)) ∙ take-append-drop n trace in
-        subst (λ lines. lines_done b plan s zone cpu < length (steps_among b plan zone lines)) all (step_within b plan (take n trace) (drop (n + 1) trace) line)
-
 -- ---- along the order
 
 -- what is kept at a place of the order
 record IsKept (b : Bundle) (plan : Plan) (s : Play) : Type 0 where
   each : (zone : ℕ) → zone < length plan.zones → IsSound b plan s zone (zone_play s zone)
   supplied : IsSupplied b plan s.log
-  frames : (stock_of b s.log).free + sum_below (pages_held b plan s) (length plan.zones) ≡ b.frames
+  frames : AreFrames b plan s
   blocks : AreBlocks b plan s
 
 line_keeps : (b : Bundle) (plan : Plan) → IsValid b → HasZones b plan → HasElements plan → (g : Progress) (s : Play) (told : ℕ → Told) (left : List ℕ) (cpu : ℕ) (more : List OrderLine) → IsGoing b plan g s told left (Cpu cpu ∷ more) → IsKept b plan s →
@@ -89,7 +79,7 @@ line_keeps b plan valid zones elements g s told left cpu more going kept =
     let at = (addressed b plan (line_to_play b s cpu).act).0 in
     let beside = going.beside in
     record {
-      each = line_sound b plan s cpu elements valid.magazine.0 turn.is_cpu turn.in_zones turn.some beside.zones_long beside.cpus_long kept.supplied kept.each (beside.zones at turn.in_zones).long;
+      each = line_sound b plan s cpu elements valid.magazine.0 turn.is_cpu turn.in_zones turn.some beside.zones_long beside.cpus_long kept.supplied kept.each (beside.zones at turn.in_zones).long kept.frames;
       supplied = line_supplied b plan s cpu elements valid.magazine.0 turn.is_cpu turn.in_zones turn.some beside.zones_long beside.cpus_long kept.supplied;
       frames = line_frames b plan s cpu elements valid.magazine.0 turn.is_cpu turn.in_zones turn.some beside.zones_long beside.cpus_long kept.supplied kept.frames;
       blocks = line_blocks b plan s cpu elements valid.magazine.0 turn.is_cpu turn.in_zones turn.some beside.zones_long beside.cpus_long kept.supplied (kept.each at turn.in_zones) kept.blocks;
@@ -143,6 +133,7 @@ zone_played b plan s zone z long is =
       pages = is.pages;
       bases = is.bases_long;
       chunks = is.chunks;
+      framed = is.framed;
       entries = is.entries_few;
       gifts = is.gifts;
       visits = is.visits;

@@ -1,5 +1,5 @@
 -- Sums over the numbers below one.
-use Rattle.std.proofs.Common.{◌≡◌, ◌≢◌, ◌<◌, ◌≤◌, ℕ, zero, suc, ◌+◌, ◌==◌, true, false, refl, subst, arith}
+use Rattle.std.proofs.Common.{◌≡◌, ◌≢◌, ◌<◌, ◌≤◌, ℕ, zero, suc, ◌+◌, ◌==◌, true, false, refl, ap, subst, arith}
 use Rattle.kz_model.specs.Amounts.{sum_below}
 
 pub sum_below-same : (f g : ℕ → ℕ) (n : ℕ) → ((k : ℕ) → k < n → f k ≡ g k) → sum_below f n ≡ sum_below g n
@@ -13,6 +13,15 @@ sum_below-zero f (suc n) none = omega (arith, sum_below-zero f n (λ k lt. none 
 pub sum_below-le : (f g : ℕ → ℕ) (n : ℕ) → ((k : ℕ) → k < n → f k ≤ g k) → sum_below f n ≤ sum_below g n
 sum_below-le f g zero le = omega arith
 sum_below-le f g (suc n) le = omega (arith, sum_below-le f g n (λ k lt. le k (omega arith)), le n (omega arith))
+
+-- one of the numbers is no more than the sum
+pub sum_below-one : (f : ℕ → ℕ) (n at : ℕ) → at < n → f at ≤ sum_below f n
+sum_below-one f zero at lt = absurd (omega arith)
+sum_below-one f (suc n) at lt =
+    elim (at == n) as (λ b. (at == n) ≡ b → f at ≤ sum_below f n + f n) [
+      | true ↦ λ e. let is : at ≡ n = grind arith in let same : f at ≡ f n = ap f is in omega arith
+      | false ↦ λ e. let below : at < n = grind arith in omega (arith, sum_below-one f n at below)
+    ] refl
 
 -- one number of the sum is another
 pub sum_below-set : (f g : ℕ → ℕ) (n at : ℕ) → at < n → ((k : ℕ) → k < n → k ≢ at → g k ≡ f k) → sum_below g n + f at ≡ sum_below f n + g at

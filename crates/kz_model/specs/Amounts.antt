@@ -1,7 +1,10 @@
 -- How much there is of what a play holds: mapped chunks and pages, visits, and lines.
-use Rattle.std.specs.Prelude.{ℕ, zero, suc, ◌+◌, ◌*◌, ◌==◌, if◌then◌else◌, List, [], ◌∷◌, length, take}
-use Rattle.std.specs.List.{fold}
+use Rattle.std.specs.Prelude.{ℕ, zero, suc, ◌+◌, ◌*◌, ◌==◌, Bool, true, false, if◌then◌else◌, List, [], ◌∷◌, length, take}
+use Rattle.std.specs.List.{filter, fold}
+use Rattle.kz_model.specs.declared.bundle.Act.{Act}
+use Rattle.kz_model.specs.declared.bundle.Act.TheVariants as act
 use Rattle.kz_model.specs.declared.bundle.Bundle.{Bundle}
+use Rattle.kz_model.specs.declared.bundle.TraceStep.{TraceStep}
 use Rattle.kz_model.specs.declared.record.Plan.{Plan}
 use Rattle.kz_model.specs.declared.record.Visit.{Visit}
 use Rattle.kz_model.specs.declared.supply.SupplyEntry.{SupplyEntry}
@@ -72,3 +75,27 @@ zone_lines b plan zone = sum_below (lines_there b plan zone) b.cpus
 
 abbrev pub zone_lines_done : Bundle → Plan → Play → ℕ → ℕ
 zone_lines_done b plan s zone = sum_below (lines_done b plan s zone) b.cpus
+
+-- ---- gifts
+
+-- a line that gives a block away
+abbrev pub is_giving : Act → Bool
+is_giving (act.Give name to) = true
+is_giving line = false
+
+abbrev pub giving : List TraceStep → List TraceStep
+giving lines = filter (λ line. is_giving line.act) lines
+
+-- how many lines of a CPU on a zone give a block away, and how many of those that are done
+abbrev pub gifts_there : Bundle → Plan → ℕ → ℕ → ℕ
+gifts_there b plan zone cpu = length (steps_among b plan zone (giving (trace_of b cpu)))
+
+abbrev pub gifts_done : Bundle → Plan → Play → ℕ → ℕ → ℕ
+gifts_done b plan s zone cpu = length (steps_among b plan zone (giving (take (length (replies_so_far s cpu)) (trace_of b cpu))))
+
+-- those of all CPUs
+abbrev pub zone_gifts : Bundle → Plan → ℕ → ℕ
+zone_gifts b plan zone = sum_below (gifts_there b plan zone) b.cpus
+
+abbrev pub zone_gifts_done : Bundle → Plan → Play → ℕ → ℕ
+zone_gifts_done b plan s zone = sum_below (gifts_done b plan s zone) b.cpus

@@ -5,6 +5,7 @@ mod bundle;
 mod grammar;
 mod laws;
 mod layout;
+mod named;
 mod recent;
 mod record;
 mod replies;
@@ -23,6 +24,7 @@ pub use laws::{
     runs_keep_zones_apart, shares_are_fair, steps_without_a_visit_are_local,
 };
 pub use layout::{LayoutCause, LayoutFault};
+pub use named::NameRows;
 pub use recent::RecentSteps;
 pub use record::{Geometry, Layout, Plan, Record, Room, Visit, ZoneParams, ZoneRow};
 pub use replies::{Replies, ReplySheet};

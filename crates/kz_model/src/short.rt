@@ -1,5 +1,6 @@
 //! The steps of a trace as they are kept. A write's bytes stand apart, so that no other step takes room for them.
 ghost use Rattle.std.specs.Prelude.{◌≡◌, ◌<◌, ◌^◌, ℕ, List, [], ◌∷◌, ◌++◌, length, map, All, OnOk, OnErr, IfOk, slice_index_or, vec_len, vec_capacity};
+ghost use Rattle.kz_model.specs.Amounts.{is_giving};
 ghost use Rattle.kz_model.specs.Traces.{act_meant, no_step, IsWithin, AreNumbered, renumbered_short, renumbered_kept, renumbered_step};
 
 use crate::{Act, Piece, TraceStep};
@@ -191,17 +192,6 @@ impl Trace {
         self.steps.len()
     }
 
-    /// One more step.
-    pub fn push(&mut self, step: TraceStep) -> Result<(), AllocError>
-        ensures ok { OnOk result (self.new ≡ self.old ++ step ∷ []) }
-        ensures err { OnErr result (self.new ≡ self.old) }
-    {
-        let TraceStep { line, round, act } = step;
-        let act = short_of(&mut self.pieces, act)?;
-        self.steps.push(ShortStep { line, round, act })?;
-        Ok(())
-    }
-
     /// One more step, by its parts.
     #[inline(always)]
     pub fn put(&mut self, line: u32, round: u32, act: Act) -> Result<(), AllocError>
@@ -233,6 +223,14 @@ impl Trace {
         ensures { result ≡ (slice_index_or self.now at no_step).round }
     {
         self.steps[at].round
+    }
+
+    /// Whether the step at this place gives a block away.
+    pub fn gives(&self, at: usize) -> bool
+        requires { at < length self.now }
+        ensures { result ≡ is_giving (slice_index_or self.now at no_step).act }
+    {
+        matches!(self.steps[at].act, ShortAct::Give { .. })
     }
 
     /// The steps with other numbers for their names and types.
