@@ -21,7 +21,7 @@ use Rattle.kz_bundle.specs.Counted.{AreCounted, lines_before, one_more, row_at}
 
 -- ---- how many lines there are
 
-few_among : (b : Bundle) (plan : Plan) (zone : ℕ) (lines : List TraceStep) → length (steps_among b plan zone lines) ≤ length lines
+pub few_among : (b : Bundle) (plan : Plan) (zone : ℕ) (lines : List TraceStep) → length (steps_among b plan zone lines) ≤ length lines
 few_among b plan zone [] = omega arith
 few_among b plan zone (line ∷ lines) =
     elim ((addressed b plan line.act).0 == zone) as (λ same. length (cond same ((addressed b plan line.act).1 ∷ steps_among b plan zone lines) (steps_among b plan zone lines)) ≤ length (line ∷ lines)) [
@@ -53,10 +53,10 @@ few_steps_on b plan zone is =
 
 -- ---- one line more
 
-abbrev one_if : Bool → ℕ
+abbrev pub one_if : Bool → ℕ
 one_if is = cond is 1 0
 
-steps_among-push : (b : Bundle) (plan : Plan) (zone : ℕ) (lines : List TraceStep) (line : TraceStep) →
+pub steps_among-push : (b : Bundle) (plan : Plan) (zone : ℕ) (lines : List TraceStep) (line : TraceStep) →
     length (steps_among b plan zone (lines ++ line ∷ [])) ≡ length (steps_among b plan zone lines) + one_if ((addressed b plan line.act).0 == zone)
 steps_among-push b plan zone lines line =
     ap length (steps_among-append b plan zone lines (line ∷ []))

@@ -43,4 +43,5 @@ pub mod Printed
 pub mod Outlines
 pub mod Zoned
 pub mod Counting
+pub mod GiftLines
 pub mod Keys

@@ -84,7 +84,7 @@ built parts rows rounds traces = record {
 pub is_built : (parts : Parts) (numbers : Numbers) (names types : List ℕ) (traces : List (List TraceStep)) (last : ℕ) (e : Part) → AreParts parts → AreNumbers parts numbers →
     last ≡ length parts.sections.items - 1 → names ≡ numbers.names.items → types ≡ numbers.types.items →
     traces ≡ map (λ (part : Part). map (renumbered_step names types) part.steps) parts.sections.items →
-    built parts numbers.rows.items ((slice_index_or parts.sections.items last e).breaks + 1) traces ≡ bundle_of (draft_of parts)
+    built parts numbers.rows ((slice_index_or parts.sections.items last e).breaks + 1) traces ≡ bundle_of (draft_of parts)
 is_built parts numbers names types traces last e h numbered is is_names is_types told =
     let d = draft_of parts in
     let rows = (rows_in parts).rows in

@@ -1,8 +1,10 @@
 -- The lines of CPUs on zones.
-use Rattle.std.specs.Prelude.{◌≡◌, ℕ, ◌+◌, ◌<◌, ◌==◌, nat_lt, if◌then◌else◌, List, [], length, take, slice_index, slice_index_or, slice_set}
+use Rattle.std.specs.Prelude.{◌≡◌, ℕ, ◌+◌, ◌<◌, ◌==◌, nat_lt, if◌then◌else◌, List, [], length, map, take, slice_index, slice_index_or, slice_set}
+use Rattle.std.specs.List.{range_with_len}
 use Rattle.kz_model.specs.declared.bundle.Bundle.{Bundle}
 use Rattle.kz_model.specs.declared.bundle.TraceStep.{TraceStep}
 use Rattle.kz_model.specs.declared.record.Plan.{Plan}
+use Rattle.kz_model.specs.Amounts.{sum_below, giving, gifts_there}
 use Rattle.kz_model.specs.Journal.{trace_of, type_of_name, steps_among}
 
 -- the plan has a zone for each type and each name
@@ -27,3 +29,11 @@ pub record AreCounted (b : Bundle) (plan : Plan) (lines : ℕ → List TraceStep
   pub zones : length table ≡ length plan.zones
   pub cpus : (zone : ℕ) → zone < length plan.zones → length (row_at table zone) ≡ b.cpus
   pub each : (zone cpu : ℕ) → zone < length plan.zones → cpu < b.cpus → slice_index (row_at table zone) cpu ≡ length (steps_among b plan zone (lines cpu))
+
+-- how many lines addressed to a zone give a block away, of all lines of the CPUs before this one and so many of this one's
+abbrev pub gifts_before : Bundle → Plan → ℕ → ℕ → ℕ → ℕ
+gifts_before b plan cpu at zone = sum_below (gifts_there b plan zone) cpu + length (steps_among b plan zone (giving (take at (trace_of b cpu))))
+
+-- those of each zone
+abbrev pub gifts_by_zone : Bundle → Plan → ℕ → ℕ → List ℕ
+gifts_by_zone b plan cpu at = map (gifts_before b plan cpu at) (range_with_len 0 (length plan.zones))

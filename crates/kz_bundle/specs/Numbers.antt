@@ -12,6 +12,6 @@ rows_in parts = record { names = texts parts.names.items; words = texts parts.wo
 
 -- the rows of names, and the places of names and types among the bundle's
 pub record AreNumbers (parts : Parts) (numbers : Numbers) : Type 0 where
-  pub rows : numbers.rows.items ≡ map (name_row (type_names (draft_of parts))) (rows_in parts).rows
+  pub rows : numbers.rows ≡ map (name_row (type_names (draft_of parts))) (rows_in parts).rows
   pub names : ArePlacesOf (row_names (rows_in parts).rows) (texts parts.names.items) numbers.names.items
   pub types : ArePlacesOf (type_names (draft_of parts)) (texts parts.words.items) numbers.types.items

@@ -22,8 +22,7 @@ fn zone_of_name(bundle: &Bundle, plan: &Plan, name: u32) -> u32
     requires of { type_of_name bundle.now name < length plan.now.of_type }
     ensures { result ≡ zone_of_name bundle.now plan.now name }
 {
-    let row = &bundle.names.as_slice()[name as usize];
-    zone_of_type(plan, row.of)
+    zone_of_type(plan, bundle.names.of(name as usize))
 }
 
 /// The zone that an act is addressed to, and its step there.

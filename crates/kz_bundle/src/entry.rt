@@ -5,7 +5,7 @@ ghost use Rattle.kz_model.specs.Stages.{row_of, row_names, with_bound};
 ghost use Rattle.kz_bundle.specs.Parts.{texts, AreOnce};
 ghost use Rattle.kz_bundle.specs.Rows.{name_row, numbered_row, ArePlacesOf};
 
-use kz_model::{Name, NameRow};
+use kz_model::{Name, NameRow, NameRows};
 use std::alloc::{AllocError, Global};
 use std::marker::Model;
 
@@ -61,13 +61,13 @@ fn rows_of(
     names: &[&[u8]],
     entries: &[Entry],
     types: &[u32],
-) -> Result<Vec<NameRow>, AllocError>
+) -> Result<NameRows, AllocError>
     requires names { All (λ entry. entry.name < length names.now) entries.now }
     requires types { All (λ entry. entry.of < length types.now) entries.now }
     requires short { All (λ name. length name.now ≤ 32) names.now }
-    ensures { IfOk result (λ rows. rows.items ≡ map (numbered_row (texts names.now) types.now) entries.now) }
+    ensures { IfOk result (λ rows. rows ≡ map (numbered_row (texts names.now) types.now) entries.now) }
 {
-    let mut rows = Vec::with_capacity(alloc, entries.len())?;
+    let mut rows = NameRows::with_capacity(alloc, entries.len())?;
     for entry in entries {
         rows.push(NameRow {
             name: Name::of(names[entry.name as usize]),
@@ -138,10 +138,10 @@ impl<'a> Rows<'a> {
     }
 
     /// The rows, with the numbers of their types by those of their words.
-    pub fn name_rows(&self, alloc: Global, types: &[u32]) -> Result<Vec<NameRow>, AllocError>
+    pub fn name_rows(&self, alloc: Global, types: &[u32]) -> Result<NameRows, AllocError>
         requires short { All (λ name. length name ≤ 32) self.now.names }
         requires types { length types.now ≡ length self.now.words }
-        ensures { IfOk result (λ rows. (declared : List (List ℕ)) → ArePlacesOf declared self.now.words types.now → rows.items ≡ map (name_row declared) self.now.rows) }
+        ensures { IfOk result (λ rows. (declared : List (List ℕ)) → ArePlacesOf declared self.now.words types.now → rows ≡ map (name_row declared) self.now.rows) }
     {
         rows_of(alloc, self.names, &self.entries, types)
     }

@@ -13,13 +13,13 @@ use crate::entry::{Rows, placed_or};
 use crate::parts::Parts;
 use crate::scan::{all_rows, sections_fault};
 use kz_layout::Places;
-use kz_model::{NameRow, Refusal, Types};
+use kz_model::{NameRows, Refusal, Types};
 use std::alloc::{AllocError, Global};
 
 /// The names of a bundle, and the numbers that names and types have in it, by those that they have in the parts of its text.
 #[derive(Drop)]
 pub struct Numbers {
-    pub rows: Vec<NameRow>,
+    pub rows: NameRows,
     pub names: Vec<u32>,
     pub types: Vec<u32>,
 }

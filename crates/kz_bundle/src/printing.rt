@@ -157,7 +157,7 @@ fn name_at(bundle: &Bundle, name: u32) -> &[u8]
     requires { name < length bundle.now.names }
     ensures { result.now ≡ text_at (names_in bundle.now) name }
 {
-    bundle.names.as_slice()[name as usize].name.as_slice()
+    bundle.names.name(name as usize).as_slice()
 }
 
 /// The order section, where there is one.

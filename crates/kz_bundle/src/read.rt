@@ -62,7 +62,7 @@ fn bundle_of(alloc: Global, parts: Parts<'_>, numbers: Numbers) -> Result<Bundle
         magazine: header.magazine,
         depot: header.depot,
         types: parts.types,
-        names: Items::from_vec(numbers.rows),
+        names: numbers.rows,
         rounds,
         traces: Items::from_vec(traces),
         order: parts.order,

@@ -1,7 +1,11 @@
+ghost use Rattle.std.specs.Prelude.{◌≡◌, ◌≤◌, All, length, IfOk};
+ghost use Rattle.kz_model.specs.Valid.{IsValid, layouts_in, plan_in};
+
 use crate::body::read_type;
 use crate::form::read_form;
-use crate::{ReadBundleFault, bundle_layouts, print_bundle, read_bundle};
-use kz_model::{Act, Cause, Counted, Mark, OrderLine, Seed};
+use crate::{ReadBundleFault, bundle_layouts, gifts, print_bundle, read_bundle, read_with_layouts};
+use kz_model::{Act, Bundle, Cause, Counted, Layout, Mark, OrderLine, Plan, Seed};
+use kz_plan::plan;
 use std::alloc::{AllocError, Global};
 use std::test::Fail;
 
@@ -184,11 +188,8 @@ fn a_bundle_is_read(rt: HostRuntime) -> Result<(), Fail> {
     assert_eq!(rt; bundle.types.len(), 2);
     assert_eq!(rt; bundle.types.name(1), b"cred".as_slice());
     assert_eq!(rt; bundle.names.len(), 2);
-    assert_eq!(rt; bundle.names.as_slice()[0].name.as_slice(), b"y".as_slice());
-    assert_eq!(rt;
-        (bundle.names.as_slice()[0].of, bundle.names.as_slice()[1].of),
-        (1, 0)
-    );
+    assert_eq!(rt; bundle.names.name(0).as_slice(), b"y".as_slice());
+    assert_eq!(rt; (bundle.names.of(0), bundle.names.of(1)), (1, 0));
     assert_eq!(rt; bundle.traces.len(), 2);
     let steps = &bundle.traces.as_slice()[0];
     assert_eq!(rt; steps.len(), 4);
@@ -293,5 +294,32 @@ fn a_bundle_is_printed_as_it_was_read(rt: HostRuntime) -> Result<(), Fail> {
         let printed = print_bundle(rt.alloc(), &bundle)?;
         assert_eq!(rt; printed.as_slice(), text.as_slice());
     }
+    Ok(())
+}
+
+/// The plan of a bundle, by the layouts of its types.
+fn plan_of(alloc: Global, bundle: &Bundle, layouts: &[Layout]) -> Result<Plan, Fail>
+    requires valid { IsValid bundle.now }
+    requires layouts { layouts.now ≡ layouts_in bundle.now }
+    requires few { length layouts.now ≤ 1024 }
+    requires sizes { All (λ layout. layout.size ≤ 8192) layouts.now }
+    ensures { IfOk result (λ plan. plan ≡ plan_in bundle.now) }
+{
+    match plan(alloc, layouts, bundle.budget, bundle.seed) {
+        Ok(plan) => Ok(plan),
+        Err(fault) => Err(fault.into()),
+    }
+}
+
+#[test]
+fn gifts_are_counted_by_zone(rt: HostRuntime) -> Result<(), Fail> {
+    let body =
+        b"type cred { u32 uid; u32 gid }\ncpu 0\na x proc\na y cred\ng x 1\nf y\ncpu 1\nt x\nr x 0 8\ng x 0\nend\n";
+    let text = joined(rt.alloc(), &[TWO_CPUS, PROC, body])?;
+    assert!(rt; text.len() < 1000);
+    let (bundle, layouts) = read_with_layouts(rt.alloc(), &text)?;
+    let plan = plan_of(rt.alloc(), &bundle, layouts.as_slice())?;
+    let gifts = gifts(rt.alloc(), &bundle, &plan)?;
+    assert_eq!(rt; gifts.as_slice(), [2, 0].as_slice());
     Ok(())
 }

@@ -4,4 +4,4 @@ use Rattle.kz_bundle.specs.Rows.{numbered_row}
 use Rattle.kz_bundle.proofs.entry.rows_of.Given as goal
 
 abbrev pub invariant-loop-entry : goal.invariant-loop-entry
-invariant-loop-entry l = l.rows.items ≡ map (numbered_row (texts l.names) l.types) (take l.entry-index l.entries)
+invariant-loop-entry l = l.rows ≡ map (numbered_row (texts l.names) l.types) (take l.entry-index l.entries)

@@ -8,9 +8,8 @@ pub returns : goal.returns
 returns c =
     let parts = c.args.parts in
     let numbers = c.args.numbers in
-    let F : Part → Bundle = λ (part : Part). built parts c.from_vec.result (part.breaks + 1) c.from_vec-2.result in
+    let F : Part → Bundle = λ (part : Part). built parts numbers.rows (part.breaks + 1) c.from_vec.result in
     ap F c.index.ensures
-    ∙ ap (λ rows. built parts rows ((slice_index_or parts.sections.items (c.len-last.result - 1) c.index.result.now).breaks + 1) c.from_vec-2.result) c.from_vec.ensures
-    ∙ ap (built parts numbers.rows.items ((slice_index_or parts.sections.items (c.len-last.result - 1) c.index.result.now).breaks + 1)) c.from_vec-2.ensures
+    ∙ ap (built parts numbers.rows ((slice_index_or parts.sections.items (c.len-last.result - 1) c.index.result.now).breaks + 1)) c.from_vec.ensures
     ∙ is_built parts numbers c.as_slice.result.now c.as_slice-2.result.now c.in_ok-traces.traces.items (c.len-last.result - 1) c.index.result.now c.requires.parts c.requires.numbers
     (omega (arith, c.len-last.ensures, parts.sections.ok)) c.as_slice.ensures.value c.as_slice-2.ensures.value c.in_ok-traces.ensures
