@@ -11,7 +11,7 @@ use crate::pages::{answer_to_chunk, answer_to_frames};
 use crate::stock::Stock;
 use crate::{Denied, Grant};
 use kz_frame::Frames;
-use kz_model::{Answer, Ask, SupplyEntry};
+use kz_model::{Answer, Ask, Items, SupplyEntry};
 use std::alloc::{AllocError, Global};
 use std::marker::Model;
 
@@ -110,5 +110,12 @@ impl Supply {
         ensures free { (stock_of self.now).free ≤ self.now.frames }
     {
         self.log.as_slice()
+    }
+
+    /// All asks with their answers, moved out. The frames are let go.
+    pub fn into_log(self) -> Items<SupplyEntry>
+        ensures { result ≡ self.log }
+    {
+        Items::from_vec(self.log)
     }
 }
