@@ -98,7 +98,7 @@ impl Book {
         requires reads { ReadsFew step.now }
         requires same_zone { P.params pages.old ≡ params_of self.old }
         requires answers { CanAnswer (want_at self.old.zone pair.old.blocks step.now) (P.can_chunk pages.old) (P.can_frames pages.old) }
-        requires few { P.grants pages.old + length self.old.zone.chunks ≤ self.old.zone.most_chunks }
+        requires few { 0 < P.grants pages.old → length self.old.zone.chunks < self.old.zone.most_chunks }
         requires backs { trims step.now ≡ true → count_by (λ chunk. chunk.mapped) self.old.zone.chunks ≤ P.backs pages.old }
         ensures visits { self.new.visits ≡ self.old.visits ++ visit_of round cpu recent.now ∷ [] }
         ensures room { self.new.room ≡ self.old.room }
@@ -185,6 +185,13 @@ impl Book {
         ensures { result.now ≡ self.now.visits }
     {
         &self.visits
+    }
+
+    /// All visits, moved out. The zone is let go.
+    pub fn into_visits(self) -> Items<Visit>
+        ensures { result ≡ self.visits }
+    {
+        Items::from_vec(self.visits)
     }
 
     /// The zone as the journal leaves it.

@@ -157,7 +157,7 @@ impl Cpu {
         requires reads { ReadsFew step.now }
         requires same_zone { P.params pages.old ≡ params_of book.old }
         requires answers { CanAnswer (want_at book.old.zone (cache_at self.old zone).pair.blocks step.now) (P.can_chunk pages.old) (P.can_frames pages.old) }
-        requires few { P.grants pages.old + length book.old.zone.chunks ≤ book.old.zone.most_chunks }
+        requires few { 0 < P.grants pages.old → length book.old.zone.chunks < book.old.zone.most_chunks }
         requires backs { trims step.now ≡ true → count_by (λ chunk. chunk.mapped) book.old.zone.chunks ≤ P.backs pages.old }
 
         ensures visits { book.new.visits ≡ book.old.visits ++ visit_of round self.old.cpu (recent_at self.old zone) ∷ [] }

@@ -1,5 +1,5 @@
 //! Growing by what the supply grants.
-ghost use Rattle.std.specs.Prelude.{◌≡◌, ◌+◌, ◌≤◌, [], ◌∷◌, ◌++◌, false, length, IsTrue, IsSome, IfSome, Some, None, OnOk, OnErr, slice_set};
+ghost use Rattle.std.specs.Prelude.{◌≡◌, ◌+◌, ◌<◌, ◌≤◌, [], ◌∷◌, ◌++◌, false, length, IsTrue, IsSome, IfSome, Some, None, OnOk, OnErr, slice_set};
 ghost use Rattle.kz_model.specs.Pick.{unmapped_place, fresh_chunk, ask_to_grow, has_idle, chunk_to_pick};
 ghost use Rattle.kz_supply.specs.Exchange.{ask_for_chunk, ask_for_frames};
 ghost use Rattle.kz_zone.specs.Growing.{with_chunks, grown_chunks, readied_chunks, asks_for, Asked, Stays};
@@ -12,7 +12,7 @@ pub fn ready<P: Pages>(chunks: &mut Chunks, pages: &mut P) -> Result<(), Denied>
     requires same_zone { P.params pages.old ≡ chunks.old.params }
     requires chunk { has_idle (with_chunks chunks.old.chunks) ≡ false → unmapped_place chunks.old.chunks ≡ None → IsTrue (P.can_chunk pages.old) }
     requires frames { has_idle (with_chunks chunks.old.chunks) ≡ false → IsSome (unmapped_place chunks.old.chunks) → IsTrue (P.can_frames pages.old) }
-    requires few { P.grants pages.old + length chunks.old.chunks ≤ chunks.old.most }
+    requires few { 0 < P.grants pages.old → length chunks.old.chunks < chunks.old.most }
     ensures ready { OnOk result (chunks.new.chunks ≡ readied_chunks chunks.old.params chunks.old.chunks) }
     ensures unchanged { OnErr result (chunks.new ≡ chunks.old) }
     ensures stays { Stays chunks.old chunks.new }
@@ -32,7 +32,7 @@ fn grow<P: Pages>(chunks: &mut Chunks, pages: &mut P) -> Result<(), Denied>
     requires same_zone { P.params pages.old ≡ chunks.old.params }
     requires chunk { unmapped_place chunks.old.chunks ≡ None → IsTrue (P.can_chunk pages.old) }
     requires frames { IsSome (unmapped_place chunks.old.chunks) → IsTrue (P.can_frames pages.old) }
-    requires few { P.grants pages.old + length chunks.old.chunks ≤ chunks.old.most }
+    requires few { 0 < P.grants pages.old → length chunks.old.chunks < chunks.old.most }
     ensures grown { OnOk result (chunks.new.chunks ≡ grown_chunks chunks.old.params chunks.old.chunks) }
     ensures unchanged { OnErr result (chunks.new ≡ chunks.old) }
     ensures stays { Stays chunks.old chunks.new }
@@ -69,7 +69,7 @@ fn map_again<P: Pages>(chunks: &mut Chunks, ordinal: u32, pages: &mut P) -> Resu
 fn map_new<P: Pages>(chunks: &mut Chunks, pages: &mut P) -> Result<(), Denied>
     requires same_zone { P.params pages.old ≡ chunks.old.params }
     requires chunk { IsTrue (P.can_chunk pages.old) }
-    requires few { P.grants pages.old + length chunks.old.chunks ≤ chunks.old.most }
+    requires few { 0 < P.grants pages.old → length chunks.old.chunks < chunks.old.most }
     ensures mapped { OnOk result (chunks.new.chunks ≡ chunks.old.chunks ++ fresh_chunk chunks.old.params ∷ []) }
     ensures unchanged { OnErr result (chunks.new ≡ chunks.old) }
     ensures stays { Stays chunks.old chunks.new }

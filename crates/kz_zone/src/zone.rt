@@ -76,7 +76,7 @@ impl Zone {
         requires same_magazine { into.old.magazine ≡ self.old.params.magazine }
         requires same_zone { P.params pages.old ≡ self.old.params }
         requires answers { CanAnswer (want_of self.old) (P.can_chunk pages.old) (P.can_frames pages.old) }
-        requires few { P.grants pages.old + length self.old.chunks ≤ self.old.most_chunks }
+        requires few { 0 < P.grants pages.old → length self.old.chunks < self.old.most_chunks }
 
         // What the stack gets, and what is left.
         ensures shows { OnOk result ((s : Shared) → Shows self.old s → Shows self.new (ready self.old.params s []).1) }
