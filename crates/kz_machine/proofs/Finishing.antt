@@ -10,16 +10,15 @@ use Rattle.kz_model.specs.declared.step.Reply.{Reply}
 use Rattle.kz_model.specs.declared.supply.SupplyEntry.{SupplyEntry}
 use Rattle.kz_model.specs.Play.{ZonePlay, Play, no_play, zone_play, record_of}
 use Rattle.kz_model.specs.PlayedAt.{IsPlaySound}
-use Rattle.kz_model.specs.Rooms.{room_of}
 use Rattle.kz_model.specs.Zone.{Chunk, Shared}
 use Rattle.kz_supply.specs.Supply.{Supply}
 use Rattle.kz_book.specs.Book.{Book}
-use Rattle.kz_machine.specs.Blank.{HasRoomFor, IsEnough, sheet_at}
+use Rattle.kz_machine.specs.Blank.{HasRoomFor, sheet_at}
 use Rattle.kz_machine.specs.Looks.{no_book, no_room, book_at}
 use Rattle.kz_machine.specs.Machine.{Machine}
+use Rattle.kz_machine.specs.Needs.{needed_of}
 use Rattle.kz_machine.specs.Stands.{IsZoneAt, IsAt}
 use Rattle.kz_machine.proofs.Fit.{room_here, rooms_long}
-use Rattle.kz_machine.proofs.Lines.{zone_steps}
 
 -- two lists from which the same is made, place by place
 map_alike : {X Y Z : Type 0} (f : X → Z) (g : Y → Z) (xs : List X) (ys : List Y) (d : X) (e : Y) (none : Z) → length xs ≡ length ys → ((k : ℕ) → k < length xs → f (slice_index_or xs k d) ≡ g (slice_index_or ys k e)) → map f xs ≡ map g ys
@@ -41,24 +40,16 @@ module _ (m : Machine) (b : Bundle) (plan : Plan) (s : Play) (at : IsAt b plan m
   pub mapped_fit : length m.books ≤ m.blank.mapped
   mapped_fit = let fit = at.blank.mapped in let rooms = rooms_long b plan in let long = at.books_long in omega arith
 
-  enough : (zone : ℕ) → zone < length m.books → IsEnough (room_of b plan zone) (sheet_at m.blank.sheets zone)
+  enough : (zone : ℕ) → zone < length m.books → (needed_of b plan zone).chunks ≤ (sheet_at m.blank.sheets zone).chunks
   enough zone within =
       let lt : zone < length plan.zones = subst (λ n. zone < n) at.books_long within in
-      subst (λ (room : Room). IsEnough room (sheet_at m.blank.sheets zone)) (room_here b plan zone no_room lt) (at.blank.sheets zone (subst (λ n. zone < n) (sym (rooms_long b plan)) lt))
+      subst (λ (room : Room). room.chunks ≤ (sheet_at m.blank.sheets zone).chunks) (room_here b plan zone no_room lt) (at.blank.sheets zone (subst (λ n. zone < n) (sym (rooms_long b plan)) lt))
 
   pub sheets_fit : HasRoomFor m.books m.blank.sheets
   sheets_fit =
       record {
         long = at.blank.sheets_long ∙ rooms_long b plan ∙ sym at.books_long;
-        visits = λ zone within.
-            let is = zone_at zone within in
-            let here = sound.each zone (subst (λ n. zone < n) at.books_long within) in
-            let few = here.visits in
-            let lines = here.lines in
-            let steps = zone_steps b plan zone in
-            let room = (enough zone within).visits in
-            subst (λ (visits : List Visit). length visits ≤ (sheet_at m.blank.sheets zone).visits) (sym is.visits) (omega arith);
-        chunks = λ zone within. let most = (zone_at zone within).most_chunks in let room = (enough zone within).chunks in omega arith;
+        chunks = λ zone within. let most = (zone_at zone within).most_chunks in let room = enough zone within in omega arith;
       }
 
   zones_long : length m.books ≡ length s.zones

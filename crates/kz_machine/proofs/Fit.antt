@@ -1,6 +1,6 @@
 -- The rooms of a bundle's zones are fit.
-use Rattle.std.proofs.Common.{◌≡◌, ◌<◌, ℕ, None, length, All, slice_index_or, ap, sym, subst, arith}
-use Rattle.std.proofs.Math.Nat.{div-le_self}
+use Rattle.std.proofs.Common.{◌≡◌, ◌<◌, ◌+◌, ◌/◌, ℕ, min, sum, None, length, All, slice_index_or, ap, sym, subst, arith}
+use Rattle.std.proofs.Math.Nat.{div-le_self, min-le_left}
 use Rattle.std.proofs.lemmas.List.Elements.{All-get_or, All-from_get_or}
 use Rattle.std.proofs.lemmas.List.FromFn.{get_or-map-range_with_len, length-map-range_with_len}
 use Rattle.kz_model.specs.declared.bundle.Bundle.{Bundle}
@@ -10,22 +10,28 @@ use Rattle.kz_model.specs.declared.record.ZoneRow.{ZoneRow}
 use Rattle.kz_model.specs.Journal.{params_of}
 use Rattle.kz_model.specs.Planned.{IsFitRow, IsFitPlan}
 use Rattle.kz_model.specs.PlayLaws.{HasElements}
-use Rattle.kz_model.specs.Rooms.{lines_on, room_of, rooms_of}
+use Rattle.kz_model.specs.Rooms.{lines_on, steps_on, room_of, rooms_of}
 use Rattle.kz_model.specs.Valid.{IsValid}
 use Rattle.kz_zone.specs.Room.{AreFit, IsFit}
 use Rattle.kz_machine.specs.Looks.{no_room}
-use Rattle.kz_machine.proofs.Lines.{all_lines, sum_below-one, zone_steps}
+use Rattle.kz_machine.specs.Needs.{needed_of, needed_rooms}
+use Rattle.kz_model.proofs.Sums.{sum_below-one}
+use Rattle.kz_machine.proofs.Lines.{all_lines, zone_steps}
 use Rattle.kz_model.specs.Amounts.{zone_lines}
 
--- a zone's room by its place
-pub room_here : (b : Bundle) (plan : Plan) (zone : ℕ) (d : Room) → zone < length plan.zones → slice_index_or (rooms_of b plan) zone d ≡ room_of b plan zone
-room_here b plan zone d lt = get_or-map-range_with_len (room_of b plan) 0 (length plan.zones) zone zone d lt (omega arith)
+-- a room for each zone
+pub before_long : (b : Bundle) (plan : Plan) → length (rooms_of b plan) ≡ length plan.zones
+before_long b plan = length-map-range_with_len (room_of b plan) 0 (length plan.zones)
 
-pub rooms_long : (b : Bundle) (plan : Plan) → length (rooms_of b plan) ≡ length plan.zones
-rooms_long b plan = length-map-range_with_len (room_of b plan) 0 (length plan.zones)
+-- what a run needs of a zone's room, by its place
+pub room_here : (b : Bundle) (plan : Plan) (zone : ℕ) (d : Room) → zone < length plan.zones → slice_index_or (needed_rooms b plan) zone d ≡ needed_of b plan zone
+room_here b plan zone d lt = get_or-map-range_with_len (needed_of b plan) 0 (length plan.zones) zone zone d lt (omega arith)
+
+pub rooms_long : (b : Bundle) (plan : Plan) → length (needed_rooms b plan) ≡ length plan.zones
+rooms_long b plan = length-map-range_with_len (needed_of b plan) 0 (length plan.zones)
 
 -- a CPU's steps on a zone, in the zone's room
-pub steps_here : (b : Bundle) (plan : Plan) (zone cpu : ℕ) → cpu < b.cpus → slice_index_or (room_of b plan zone).steps cpu 0 ≡ lines_on b plan zone cpu
+pub steps_here : (b : Bundle) (plan : Plan) (zone cpu : ℕ) → cpu < b.cpus → slice_index_or (needed_of b plan zone).steps cpu 0 ≡ lines_on b plan zone cpu
 steps_here b plan zone cpu lt = get_or-map-range_with_len (lines_on b plan zone) 0 b.cpus cpu cpu 0 lt (omega arith)
 
 pub params_fit : (b : Bundle) (plan : Plan) (zone : ℕ) → IsValid b → IsFitPlan b plan → zone < length plan.zones → AreFit (params_of b plan zone)
@@ -54,9 +60,12 @@ params_fit b plan zone valid fit lt =
       submap = row.submap;
     }
 
-pub room_fit : (b : Bundle) (plan : Plan) (zone : ℕ) → IsValid b → IsFitPlan b plan → zone < length plan.zones → IsFit (room_of b plan zone)
+pub room_fit : (b : Bundle) (plan : Plan) (zone : ℕ) → IsValid b → IsFitPlan b plan → zone < length plan.zones → IsFit (needed_of b plan zone)
 room_fit b plan zone valid fit lt =
     let few = div-le_self b.pages (params_of b plan zone).pages in
+    let rows = sum (steps_on b plan zone) in
+    let less = min-le_left (min (b.pages / (params_of b plan zone).pages) rows) (b.frames / (params_of b plan zone).pages + 1) in
+    let least = min-le_left (b.pages / (params_of b plan zone).pages) rows in
     let pages = valid.pages in
     let all = all_lines b plan (length plan.zones) valid in
     let one = sum_below-one (zone_lines b plan) (length plan.zones) zone lt in
@@ -68,15 +77,15 @@ room_fit b plan zone valid fit lt =
       steps = omega arith;
     }
 
-pub rooms_fit : (b : Bundle) (plan : Plan) → IsValid b → IsFitPlan b plan → All IsFit (rooms_of b plan)
+pub rooms_fit : (b : Bundle) (plan : Plan) → IsValid b → IsFitPlan b plan → All IsFit (needed_rooms b plan)
 rooms_fit b plan valid fit =
-    All-from_get_or IsFit (rooms_of b plan) no_room (λ zone within.
+    All-from_get_or IsFit (needed_rooms b plan) no_room (λ zone within.
     let lt : zone < length plan.zones = subst (λ n. zone < n) (rooms_long b plan) within in
     subst IsFit (sym (room_here b plan zone no_room lt)) (room_fit b plan zone valid fit lt))
 
-pub rooms_cpus : (b : Bundle) (plan : Plan) → All (λ room. room.params.cpus ≡ b.cpus) (rooms_of b plan)
+pub rooms_cpus : (b : Bundle) (plan : Plan) → All (λ room. room.params.cpus ≡ b.cpus) (needed_rooms b plan)
 rooms_cpus b plan =
-    All-from_get_or (λ (room : Room). room.params.cpus ≡ b.cpus) (rooms_of b plan) no_room (λ zone within.
+    All-from_get_or (λ (room : Room). room.params.cpus ≡ b.cpus) (needed_rooms b plan) no_room (λ zone within.
     let lt : zone < length plan.zones = subst (λ n. zone < n) (rooms_long b plan) within in
     ap (λ (room : Room). room.params.cpus) (room_here b plan zone no_room lt))
 

@@ -14,7 +14,7 @@ use Rattle.kz_model.specs.Amounts.{sum_below, lines_there, zone_lines}
 use Rattle.kz_model.specs.Journal.{addressed, trace_of, steps_among, log_at}
 use Rattle.kz_model.specs.Rooms.{steps_on, room_of, rooms_of}
 use Rattle.kz_model.specs.Valid.{IsValid}
-use Rattle.kz_model.proofs.Sums.{sum_below-same, sum_below-zero, sum_below-le}
+use Rattle.kz_model.proofs.Sums.{sum_below-same, sum_below-zero, sum_below-le, sum_below-one}
 use Rattle.kz_model.proofs.TraceRounds.{range_push}
 use Rattle.kz_machine.specs.Blank.{most_entries}
 
@@ -41,15 +41,6 @@ sum_below-add f g (suc n) = omega (arith, sum_below-add f g n)
 sum_below-swap : (f : ℕ → ℕ → ℕ) (m n : ℕ) → sum_below (λ i. sum_below (f i) n) m ≡ sum_below (λ j. sum_below (λ i. f i j) m) n
 sum_below-swap f zero n = sym (sum_below-zero (λ j. 0) n (λ j lt. refl))
 sum_below-swap f (suc m) n = ap (λ k. k + sum_below (f m) n) (sum_below-swap f m n) ∙ sym (sum_below-add (λ j. sum_below (λ i. f i j) m) (f m) n)
-
--- one of the numbers is no more than the sum
-pub sum_below-one : (f : ℕ → ℕ) (n k : ℕ) → k < n → f k ≤ sum_below f n
-sum_below-one f zero k lt = absurd (omega arith)
-sum_below-one f (suc n) k lt =
-    elim (k == n) as (λ b. (k == n) ≡ b → f k ≤ sum_below f n + f n) [
-      | true ↦ λ e. let is : k ≡ n = grind arith in let same : f k ≡ f n = ap f is in omega arith
-      | false ↦ λ e. let below : k < n = grind arith in let one = sum_below-one f n k below in omega arith
-    ] refl
 
 -- the sum over a list by its places
 pub sum_by_places : {X : Type 0} (f : X → ℕ) (d : X) (xs : List X) → sum_below (λ k. f (slice_index_or xs k d)) (length xs) ≡ sum_by f xs

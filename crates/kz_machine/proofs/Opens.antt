@@ -19,7 +19,7 @@ use Rattle.kz_model.specs.Journal.{params_of, zone_of_name, trace_of}
 use Rattle.kz_model.specs.Late.{NeedNone, own_after, IsDelayed}
 use Rattle.kz_model.specs.Planned.{IsPlanned, IsFitPlan}
 use Rattle.kz_model.specs.Play.{ZonePlay, zone_opened, zone_play, no_play, play_opened}
-use Rattle.kz_model.specs.Rooms.{room_of, rooms_of}
+use Rattle.kz_model.specs.Rooms.{rooms_of}
 use Rattle.kz_model.specs.Zone.{Own, ZoneState, nothing_own, own_of, opening}
 use Rattle.kz_model.proofs.OrderRuns.{zeros}
 use Rattle.kz_book.specs.Book.{Book, Journal}
@@ -31,6 +31,7 @@ use Rattle.kz_model.specs.Replies.{ReplySheet}
 use Rattle.kz_machine.specs.Blank.{no_replies, most_entries, IsBlankFor}
 use Rattle.kz_machine.specs.Looks.{no_cpu, no_room, cpu_at, book_at}
 use Rattle.kz_machine.specs.Machine.{Machine, replies_at}
+use Rattle.kz_machine.specs.Needs.{needed_of, needed_rooms}
 use Rattle.kz_machine.specs.Opening.{IsOpened, AreOpened}
 use Rattle.kz_machine.specs.Stands.{IsCpuAt, IsZoneAt, IsAt}
 use Rattle.kz_machine.proofs.Fit.{room_here, rooms_long, steps_here}
@@ -49,7 +50,7 @@ no_own (suc cpus) (suc cpu) = no_own cpus cpu
 
 module _ (b : Bundle) (plan : Plan) where
   abbrev opened : ℕ → Cpu
-  opened cpu = opened_cpu cpu (rooms_of b plan) (length b.names)
+  opened cpu = opened_cpu cpu (needed_rooms b plan) (length b.names)
 
   abbrev all_opened : List Cpu
   all_opened = map opened (range_with_len 0 b.cpus)
@@ -57,16 +58,16 @@ module _ (b : Bundle) (plan : Plan) where
   cpu_is : (cpu : ℕ) → cpu < b.cpus → cpu_at all_opened cpu ≡ opened cpu
   cpu_is cpu lt = get_or-map-range_with_len opened 0 b.cpus cpu cpu no_cpu lt (omega arith)
 
-  cache_is : (cpu zone : ℕ) → zone < length plan.zones → cache_at (opened cpu) zone ≡ opened_cache cpu (room_of b plan zone)
+  cache_is : (cpu zone : ℕ) → zone < length plan.zones → cache_at (opened cpu) zone ≡ opened_cache cpu (needed_of b plan zone)
   cache_is cpu zone lt =
-      get_or-map (opened_cache cpu) (rooms_of b plan) zone no_room no_cache (subst (λ n. zone < n) (sym (rooms_long b plan)) lt)
+      get_or-map (opened_cache cpu) (needed_rooms b plan) zone no_room no_cache (subst (λ n. zone < n) (sym (rooms_long b plan)) lt)
       ∙ ap (opened_cache cpu) (room_here b plan zone no_room lt)
 
   opened_at : (cpu : ℕ) → cpu < b.cpus → IsCpuAt b plan cpu (opened cpu)
   opened_at cpu lt =
       record {
         number = refl;
-        caches = length-map (rooms_of b plan) (opened_cache cpu) ∙ rooms_long b plan;
+        caches = length-map (needed_rooms b plan) (opened_cache cpu) ∙ rooms_long b plan;
         names = length-replicate {A = Option Binding} (length b.names) None;
         params = λ zone there. ap (λ (c : Cache). c.params) (cache_is cpu zone there);
         most_steps = λ zone there. ap (λ (c : Cache). c.most_steps) (cache_is cpu zone there) ∙ steps_here b plan zone cpu lt;
@@ -88,7 +89,7 @@ module _ (b : Bundle) (plan : Plan) where
       same_some : (c d : Course) → Some c ≡ Some d → c ≡ d
       same_some c d e = cc
 
-  module _ (zone : ℕ) (book : Book) (there : zone < length plan.zones) (is : IsOpened (room_of b plan zone) book) where
+  module _ (zone : ℕ) (book : Book) (there : zone < length plan.zones) (is : IsOpened (needed_of b plan zone) book) where
     abbrev p : ZoneParams
     p = params_of b plan zone
 
@@ -156,9 +157,9 @@ module _ (b : Bundle) (plan : Plan) where
   none_said [] = refl
   none_said (trace ∷ traces) = ap (λ (l : List (List Reply)). [] ∷ l) (none_said traces)
 
-  pub opens_at : (m : Machine) → IsPlanned b plan → IsFitPlan b plan → m.cpus ≡ all_opened → AreOpened (rooms_of b plan) m.books → m.rooms ≡ rooms_of b plan →
+  pub opens_at : (m : Machine) → IsPlanned b plan → IsFitPlan b plan → m.cpus ≡ all_opened → AreOpened (needed_rooms b plan) m.books → m.rooms ≡ needed_rooms b plan →
       m.supply ≡ record { frames = b.frames; pages = b.pages; room = most_entries (rooms_of b plan); log = [] } →
-      m.replies ≡ map (λ trace. record { room = length trace; items = [] }) b.traces → m.round ≡ 0 → IsBlankFor (rooms_of b plan) b.cpus m.blank →
+      m.replies ≡ map (λ trace. record { room = length trace; items = [] }) b.traces → m.round ≡ 0 → IsBlankFor (needed_rooms b plan) b.cpus m.blank →
       IsAt b plan m (play_opened b plan)
   opens_at m planned fit cpus books rooms supply replies round blank =
       let traces = planned.is_valid.traces in

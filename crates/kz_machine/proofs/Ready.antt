@@ -1,6 +1,7 @@
 -- A CPU whose next line it is may do it.
 use Rattle.std.proofs.Common.{◌≡◌, ◌<◌, ◌≤◌, ◌+◌, ◌-◌, ◌*◌, ◌/◌, ℕ, ◌==◌, true, false, if◌then◌else◌, List, [], ◌∷◌, ◌++◌, length, take, drop, slice_index, slice_index_or, None, Some, refl, ap, sym, ◌∙◌, subst, arith}
 use Rattle.std.specs.List.{count_by}
+use Rattle.std.proofs.Math.Nat.{le-min}
 use Rattle.std.proofs.lemmas.Nat.{le-div}
 use Rattle.std.proofs.lemmas.List.{drop_more, take-append-drop}
 use Rattle.std.proofs.lemmas.List.Elements.{All-get_or}
@@ -14,7 +15,7 @@ use Rattle.kz_model.specs.declared.record.Room.{Room}
 use Rattle.kz_model.specs.declared.record.Visit.{Visit}
 use Rattle.kz_model.specs.declared.record.ZoneParams.{ZoneParams}
 use Rattle.kz_model.specs.declared.step.Step.{Step}
-use Rattle.kz_model.specs.Amounts.{mapped_count, pages_held, stock_of, carried_of, lines_there, lines_done, zone_lines, zone_lines_done}
+use Rattle.kz_model.specs.Amounts.{mapped_count, pages_held, stock_of, carried_of, lines_there, lines_done, zone_lines, zone_lines_done, is_giving, zone_gifts, zone_gifts_done}
 use Rattle.kz_model.specs.Journal.{params_of, zone_of_name, addressed, trace_of, steps_among, log_at}
 use Rattle.kz_model.specs.Play.{ZonePlay, Play, zone_play, replies_so_far, line_to_play}
 use Rattle.kz_model.specs.PlayedAt.{IsZonePlayed}
@@ -25,20 +26,23 @@ use Rattle.kz_model.specs.Supply.{stocked}
 use Rattle.kz_model.specs.Traces.{no_step}
 use Rattle.kz_model.specs.Valid.{IsActWithin, IsStepWithin, IsValid}
 use Rattle.kz_model.specs.Zone.{Chunk, Gift, Shared}
+use Rattle.kz_model.proofs.Giving.{gift_left}
 use Rattle.kz_model.proofs.PlayedReplies.{step_within}
 use Rattle.kz_model.proofs.TraceRounds.{steps_within}
 use Rattle.kz_supply.specs.Supply.{Supply, room_left, backs_left, grants_left, frames_out}
 use Rattle.kz_book.specs.Book.{Book, carried_by}
-use Rattle.kz_book.specs.Visits.{has_name, ReadsFew}
+use Rattle.kz_book.specs.Visits.{has_name, gives, ReadsFew}
 use Rattle.kz_cpu.specs.Cpu.{Cpu, IsTagged, binding_at, recent_at}
 use Rattle.kz_machine.specs.Blank.{most_entries}
 use Rattle.kz_machine.specs.Looks.{cpu_at, book_at}
 use Rattle.kz_machine.specs.Machine.{Machine}
+use Rattle.kz_machine.specs.Needs.{needed_of}
 use Rattle.kz_machine.specs.Stands.{IsCpuAt, IsZoneAt, IsAt, IsTurn}
 use Rattle.kz_machine.specs.Steps.{side, IsReady}
 use Rattle.kz_machine.proofs.Cursors.{chunks_below, grants_and_chunks}
 use Rattle.kz_machine.proofs.Fit.{params_fit, steps_here}
-use Rattle.kz_machine.proofs.Lines.{entries_are, zone_steps, sum_below-one, sum_below-room, sum_below-twice, log_spread}
+use Rattle.kz_model.proofs.Sums.{sum_below-one}
+use Rattle.kz_machine.proofs.Lines.{entries_are, zone_steps, sum_below-room, sum_below-twice, log_spread}
 
 -- ---- a line's step
 
@@ -67,6 +71,18 @@ reads_few b plan (act.Read name off len) is = is.1
 reads_few b plan (act.Write name off bytes) is = tt
 reads_few b plan (act.Flush of) is = tt
 reads_few b plan (act.Trim of) is = tt
+
+giving_line : (b : Bundle) (plan : Plan) (line : Act) → gives (addressed b plan line).1 ≡ true → is_giving line ≡ true
+giving_line b plan (act.Alloc name of) is = absurd (cc)
+giving_line b plan (act.AllocZero name of) is = absurd (cc)
+giving_line b plan (act.Free name None) is = absurd (cc)
+giving_line b plan (act.Free name (Some of)) is = absurd (cc)
+giving_line b plan (act.Give name to) is = refl
+giving_line b plan (act.Take name) is = absurd (cc)
+giving_line b plan (act.Read name off len) is = absurd (cc)
+giving_line b plan (act.Write name off bytes) is = absurd (cc)
+giving_line b plan (act.Flush of) is = absurd (cc)
+giving_line b plan (act.Trim of) is = absurd (cc)
 
 -- ---- counts that are said twice
 
@@ -143,6 +159,12 @@ module _ (b : Bundle) (plan : Plan) (m : Machine) (s : Play) (cpu zone : ℕ) (s
       subst (λ zone. length (steps_among b plan zone (take n trace)) < length (steps_among b plan zone trace)) zone_is
       (subst (λ lines. length (steps_among b plan (addressed b plan line.act).0 (take n trace)) < length (steps_among b plan (addressed b plan line.act).0 lines)) all (step_within b plan (take n trace) (drop (n + 1) trace) line))
 
+  -- and a gift, where it gives a block away
+  gift_here : gives step ≡ true → zone_gifts_done b plan s zone < zone_gifts b plan zone
+  gift_here is =
+      subst (λ zone. zone_gifts_done b plan s zone < zone_gifts b plan zone) zone_is
+      (gift_left b plan s cpu turn.turn (giving_line b plan (line_to_play b s cpu).act (subst (λ (step : Step). gives step ≡ true) (sym step_is) is)))
+
   carried_here : carried_by cpu book.visits + length (recent_at c zone) ≡ lines_done b plan s zone cpu
   carried_here =
       let visits : carried_by cpu book.visits ≡ carried_of cpu z.visits = carried_same cpu book.visits ∙ ap (carried_of cpu) there.visits in
@@ -182,8 +204,8 @@ module _ (b : Bundle) (plan : Plan) (m : Machine) (s : Play) (cpu zone : ℕ) (s
   abbrev q : Supply
   q = record { frames = b.frames; pages = b.pages; room = most_entries (rooms_of b plan); log = s.log }
 
-  chunks_left : grants_left p.submap p.pages q + length z.state.shared.chunks ≤ b.pages / p.pages
-  chunks_left =
+  in_submap : grants_left p.submap p.pages q + length z.state.shared.chunks ≤ b.pages / p.pages
+  in_submap =
       let fit = params_fit b plan zone valid at.fit in_zones in
       let supplied = turn.sound.supplied in
       let cursor = slice_index (stock_of b s.log).cursors p.submap in
@@ -194,6 +216,16 @@ module _ (b : Bundle) (plan : Plan) (m : Machine) (s : Play) (cpu zone : ℕ) (s
       let below = chunks_below (params_of b plan) zone b.pages s.log (stocked b.frames) known at.own_asks supplied.answers in
       subst (λ n. grants_left p.submap p.pages q + n ≤ b.pages / p.pages) sound.bases
       (grants_and_chunks b.pages cursor p.pages (length (bases zone s.log)) fit.shape.some_pages below inside)
+
+  -- a chunk that may still be granted is one of those that are needed
+  chunks_left : 0 < grants_left p.submap p.pages q → length z.state.shared.chunks < (needed_of b plan zone).chunks
+  chunks_left some =
+      let pages = in_submap in
+      let all = zone_steps b plan zone in
+      let lines = lines_left in
+      let done = sound.chunks in
+      let framed = le-div (length z.state.shared.chunks) b.frames p.pages (params_fit b plan zone valid at.fit in_zones).shape.some_pages (omega (arith, sound.framed)) in
+      le-min (le-min (omega arith) (omega arith)) (omega arith)
 
   frames_left : p.pages * mapped_count z.state.shared.chunks ≤ frames_out q
   frames_left =
@@ -223,19 +255,19 @@ module _ (b : Bundle) (plan : Plan) (m : Machine) (s : Play) (cpu zone : ℕ) (s
         caught = there.caught cpu is_cpu;
         room = subst (λ n. carried_by n book.visits + (length (recent_at c zone) + 1) ≤ slice_index_or book.room.steps n 0) (sym number)
             (subst (λ n. carried_by cpu book.visits + (length (recent_at c zone) + 1) ≤ n) (sym (ap (λ (room : Room). slice_index_or room.steps cpu 0) there.room ∙ steps_here b plan zone cpu is_cpu)) (omega arith));
-        gifts = λ gives.
+        gifts = λ is.
             let few = sound.gifts in
             let most = there.most_gifts in
-            let all = zone_steps b plan zone in
-            let lines = lines_left in
+            let left = gift_here is in
             subst (λ (l : List Gift). length l < book.zone.most_gifts) (sym gifts_are) (omega arith);
         reads = subst ReadsFew step_is (reads_few b plan (line_to_play b s cpu).act within);
         submap = fit.submap;
         some_pages = fit.shape.some_pages;
         few_pages = fit.shape.most_pages;
         entries = let room = entries_room in let is = room_is in omega arith;
-        chunks = subst (λ (q : Supply). grants_left p.submap p.pages q + length book.zone.chunks ≤ book.zone.most_chunks) (sym at.supply)
-            (subst (λ (l : List Chunk). grants_left p.submap p.pages q + length l ≤ book.zone.most_chunks) (sym chunks_are) (subst (λ n. grants_left p.submap p.pages q + length z.state.shared.chunks ≤ n) (sym there.most_chunks) chunks_left));
+        chunks = λ some.
+            let room = chunks_left (subst (λ (q : Supply). 0 < grants_left p.submap p.pages q) at.supply some) in
+            subst (λ (l : List Chunk). length l < book.zone.most_chunks) (sym chunks_are) (subst (λ n. length z.state.shared.chunks < n) (sym there.most_chunks) room);
         backs = λ trims.
             let out = le-div (mapped_count z.state.shared.chunks) (frames_out q) p.pages fit.shape.some_pages (omega (arith, frames_left)) in
             let room = entries_room in

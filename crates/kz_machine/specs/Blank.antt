@@ -8,33 +8,26 @@ use Rattle.kz_machine.specs.Looks.{room_at, book_at}
 abbrev pub no_replies : ReplySheet
 no_replies = record { room = 0; items = [] }
 
--- for how many visits of a zone, and for how many of its chunks, there is room
+-- for how many of a zone's chunks there is room
 pub record Sheet : Type 0 where
-  pub visits : ℕ
   pub chunks : ℕ
 
 abbrev pub no_sheet : Sheet
-no_sheet = record { visits = 0; chunks = 0 }
+no_sheet = record { chunks = 0 }
 
 abbrev pub sheet_at : List Sheet → ℕ → Sheet
 sheet_at sheets zone = slice_index_or sheets zone no_sheet
 
--- for the replies of how many CPUs, for the visits and the chunks of how many zones, for what of each zone, and for how many entries of a log there is room
+-- for the replies of how many CPUs, for the visits and the chunks of how many zones, and for how many chunks of each zone there is room
 pub record Blank : Type 0 where
   pub cpus : ℕ
   pub visits : ℕ
   pub mapped : ℕ
   pub sheets : List Sheet
-  pub log : ℕ
 
 -- how many entries a log may have: two for each line
 abbrev pub most_entries : List Room → ℕ
 most_entries rooms = 2 * sum (map (λ room. room.transit) rooms)
-
--- there is room for what a record has of a zone
-pub record IsEnough (room : Room) (sheet : Sheet) : Type 0 where
-  pub visits : room.transit ≤ sheet.visits
-  pub chunks : room.chunks ≤ sheet.chunks
 
 -- there is room for the record of a run of so many CPUs, whose zones have these rooms
 pub record IsBlankFor (rooms : List Room) (cpus : ℕ) (blank : Blank) : Type 0 where
@@ -42,11 +35,9 @@ pub record IsBlankFor (rooms : List Room) (cpus : ℕ) (blank : Blank) : Type 0 
   pub visits : length rooms ≤ blank.visits
   pub mapped : length rooms ≤ blank.mapped
   pub sheets_long : length blank.sheets ≡ length rooms
-  pub sheets : (zone : ℕ) → zone < length rooms → IsEnough (room_at rooms zone) (sheet_at blank.sheets zone)
-  pub log : most_entries rooms ≤ blank.log
+  pub sheets : (zone : ℕ) → zone < length rooms → (room_at rooms zone).chunks ≤ (sheet_at blank.sheets zone).chunks
 
--- the visits and the chunks of each of these books have room
+-- the chunks of each of these books have room
 pub record HasRoomFor (books : List Book) (sheets : List Sheet) : Type 0 where
   pub long : length sheets ≡ length books
-  pub visits : (zone : ℕ) → zone < length books → length (book_at books zone).visits ≤ (sheet_at sheets zone).visits
   pub chunks : (zone : ℕ) → zone < length books → (book_at books zone).zone.most_chunks ≤ (sheet_at sheets zone).chunks

@@ -1,4 +1,5 @@
 pub mod Looks
+pub mod Needs
 pub mod Blank
 pub mod Machine
 pub mod Steps

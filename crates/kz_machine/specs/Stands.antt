@@ -11,13 +11,14 @@ use Rattle.kz_model.specs.Late.{IsDelayed}
 use Rattle.kz_model.specs.Planned.{IsPlanned, IsFitPlan}
 use Rattle.kz_model.specs.Play.{ZonePlay, Play, zone_play, line_to_play}
 use Rattle.kz_model.specs.PlayedAt.{IsPlaySound, HasTurn}
-use Rattle.kz_model.specs.Rooms.{lines_on, room_of, rooms_of}
+use Rattle.kz_model.specs.Rooms.{lines_on, rooms_of}
 use Rattle.kz_book.specs.Book.{Book, Journal, Keeps}
 use Rattle.kz_cpu.specs.Cpu.{Cpu, IsTagged, cache_at, recent_at, binding_at}
 use Rattle.kz_cpu.specs.Caught.{IsCaughtUp}
 use Rattle.kz_machine.specs.Blank.{most_entries, IsBlankFor}
 use Rattle.kz_machine.specs.Looks.{cpu_at, book_at}
 use Rattle.kz_machine.specs.Machine.{Machine, replies_at}
+use Rattle.kz_machine.specs.Needs.{needed_of, needed_rooms}
 
 -- A CPU has what it needs for each zone and each name; a name that is bound was bound on its own zone.
 pub record IsCpuAt (b : Bundle) (plan : Plan) (cpu : ℕ) (c : Cpu) : Type 0 where
@@ -31,9 +32,9 @@ pub record IsCpuAt (b : Bundle) (plan : Plan) (cpu : ℕ) (c : Cpu) : Type 0 whe
 
 -- The book of a zone has its visits. It keeps a history with the answers of the log, and the zone is where this ends, but for the steps that each CPU has done there since.
 pub record IsZoneAt (b : Bundle) (plan : Plan) (cpus : List Cpu) (log : List SupplyEntry) (zone : ℕ) (book : Book) (z : ZonePlay) : Type 0 where
-  pub room : book.room ≡ room_of b plan zone
-  pub most_chunks : book.zone.most_chunks ≡ (room_of b plan zone).chunks
-  pub most_gifts : book.zone.most_gifts ≡ (room_of b plan zone).transit
+  pub room : book.room ≡ needed_of b plan zone
+  pub most_chunks : book.zone.most_chunks ≡ (needed_of b plan zone).chunks
+  pub most_gifts : book.zone.most_gifts ≡ (needed_of b plan zone).transit
   pub visits : book.visits ≡ z.visits
   pub history : Journal
   pub keeps : Keeps book history
@@ -51,12 +52,12 @@ pub record IsAt (b : Bundle) (plan : Plan) (m : Machine) (s : Play) : Type 0 whe
   pub places : (cpu : ℕ) → cpu < b.cpus → length (trace_of b cpu) ≤ (replies_at m.replies cpu).room
   pub supply : m.supply ≡ record { frames = b.frames; pages = b.pages; room = most_entries (rooms_of b plan); log = s.log }
   pub own_asks : All (λ entry. IsForZone (params_of b plan entry.zone) entry.ask) s.log
-  pub rooms : m.rooms ≡ rooms_of b plan
+  pub rooms : m.rooms ≡ needed_rooms b plan
   pub cpus_long : length m.cpus ≡ b.cpus
   pub books_long : length m.books ≡ length plan.zones
   pub cpus : (cpu : ℕ) → cpu < b.cpus → IsCpuAt b plan cpu (cpu_at m.cpus cpu)
   pub zones : (zone : ℕ) → zone < length plan.zones → IsZoneAt b plan m.cpus s.log zone (book_at m.books zone) (zone_play s zone)
-  pub blank : IsBlankFor (rooms_of b plan) b.cpus m.blank
+  pub blank : IsBlankFor (needed_rooms b plan) b.cpus m.blank
 
 -- The CPU may do this step on this zone: it is its next line.
 pub record IsTurn (b : Bundle) (plan : Plan) (s : Play) (cpu zone : ℕ) (step : Step) : Type 0 where

@@ -42,7 +42,7 @@ pub record IsReady (p : ZoneParams) (here : Side) (step : Step) : Type 0 where
   pub some_pages : 1 ≤ p.pages
   pub few_pages : p.pages ≤ 8
   pub entries : 0 < room_left here.supply
-  pub chunks : grants_left p.submap p.pages here.supply + length here.book.zone.chunks ≤ here.book.zone.most_chunks
+  pub chunks : 0 < grants_left p.submap p.pages here.supply → length here.book.zone.chunks < here.book.zone.most_chunks
   pub backs : trims step ≡ true → count_by (λ chunk. chunk.mapped) here.book.zone.chunks ≤ backs_left p.pages here.supply
 
 -- what the CPU has of the zone after its recent steps

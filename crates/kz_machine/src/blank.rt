@@ -1,18 +1,16 @@
 //! Room for the record of a run.
-ghost use Rattle.std.specs.Prelude.{◌≡◌, ◌<◌, ◌≤◌, ◌++◌, [], ◌∷◌, length, map, IfOk, vec_len, vec_capacity};
-ghost use Rattle.kz_machine.specs.Blank.{IsEnough, IsBlankFor, HasRoomFor, most_entries};
+ghost use Rattle.std.specs.Prelude.{◌≡◌, ◌≤◌, [], length, map, IfOk, vec_len, vec_capacity};
+ghost use Rattle.kz_machine.specs.Blank.{IsBlankFor, HasRoomFor};
 
-use crate::within::copied_within;
 use kz_book::Book;
-use kz_model::{Items, Record, Replies, ReplySheet, Room, SupplyEntry, Visit};
+use kz_model::{Items, Record, Replies, ReplySheet, Room, Visit};
 use kz_supply::Supply;
 use std::alloc::{AllocError, Global};
 use std::marker::Model;
 
-/// Room for what a record has of a zone.
+/// Room for the marks of a zone's chunks.
 #[derive(Drop)]
 struct Sheet {
-    visits: Vec<Visit>,
     mapped: Vec<bool>,
 }
 
@@ -22,9 +20,9 @@ impl Model for Sheet {
 
     ghost Value = { Seen };
 
-    ghost view = { λ s. record { visits = vec_capacity s.visits; chunks = vec_capacity s.mapped } };
+    ghost view = { λ s. record { chunks = vec_capacity s.mapped } };
 
-    ghost invariant = { λ s. (s.visits.items ≡ []) × (s.mapped.items ≡ []) };
+    ghost invariant = { λ s. s.mapped.items ≡ [] };
 }
 
 /// Whether each chunk of a zone is mapped.
@@ -51,30 +49,30 @@ fn replies_of(replies: Vec<ReplySheet>, mut into: Vec<Replies>) -> Items<Replies
     Items::from_vec(into)
 }
 
-/// The visits of each zone, and the marks of its chunks.
-fn fill(
-    sheets: Vec<Sheet>,
-    books: &[Book],
-    visits: &mut Vec<Items<Visit>>,
-    mapped: &mut Vec<Items<bool>>,
-)
-    requires rooms { HasRoomFor books.now sheets.items }
-    requires no_visits { visits.old.items ≡ [] }
-    requires no_marks { mapped.old.items ≡ [] }
-    requires visits { length books.now ≤ vec_capacity visits.old }
-    requires marks { length books.now ≤ vec_capacity mapped.old }
-    ensures visits { visits.new.items ≡ map (λ book. book.visits) books.now }
-    ensures marks { mapped.new.items ≡ map (λ book. map (λ chunk. chunk.mapped) book.zone.chunks) books.now }
+/// The visits of each zone.
+fn visits_of(books: Vec<Book>, mut into: Vec<Items<Visit>>) -> Items<Items<Visit>>
+    requires empty { into.items ≡ [] }
+    requires room { length books.items ≤ vec_capacity into }
+    ensures { result ≡ map (λ book. book.visits) books.items }
+{
+    for book in books {
+        into.push_reserved(book.into_visits());
+    }
+    Items::from_vec(into)
+}
+
+/// The marks of each zone's chunks.
+fn mapped_of(sheets: Vec<Sheet>, books: &[Book], mut into: Vec<Items<bool>>) -> Items<Items<bool>>
+    requires empty { into.items ≡ [] }
+    requires sheets { HasRoomFor books.now sheets.items }
+    requires room { length books.now ≤ vec_capacity into }
+    ensures { result ≡ map (λ book. map (λ chunk. chunk.mapped) book.zone.chunks) books.now }
 {
     for sheet in sheets {
-        let book = &books[visits.len()];
-        let Sheet {
-            visits: page,
-            mapped: marks,
-        } = sheet;
-        visits.push_reserved(copied_within(page, book.visits()));
-        mapped.push_reserved(marks_of(book, marks));
+        let book = &books[into.len()];
+        into.push_reserved(marks_of(book, sheet.mapped));
     }
+    Items::from_vec(into)
 }
 
 /// A record that is empty, with room for all that a run makes.
@@ -84,7 +82,6 @@ pub struct Blank {
     visits: Vec<Items<Visit>>,
     mapped: Vec<Items<bool>>,
     sheets: Vec<Sheet>,
-    log: Vec<SupplyEntry>,
 }
 
 impl Model for Blank {
@@ -93,19 +90,18 @@ impl Model for Blank {
 
     ghost Value = { Seen };
 
-    ghost view = { λ b. record { cpus = vec_capacity b.replies; visits = vec_capacity b.visits; mapped = vec_capacity b.mapped; sheets = b.sheets.items; log = vec_capacity b.log } };
+    ghost view = { λ b. record { cpus = vec_capacity b.replies; visits = vec_capacity b.visits; mapped = vec_capacity b.mapped; sheets = b.sheets.items } };
 
-    ghost invariant = { λ b. (b.replies.items ≡ []) × (b.visits.items ≡ []) × (b.mapped.items ≡ []) × (b.log.items ≡ []) };
+    ghost invariant = { λ b. (b.replies.items ≡ []) × (b.visits.items ≡ []) × (b.mapped.items ≡ []) };
 }
 
 /// Room for what a record has of each zone.
 fn sheets_of(alloc: Global, rooms: &[Room]) -> Result<Vec<Sheet>, AllocError>
-    ensures { IfOk result (λ sheets. sheets.items ≡ map (λ room. record { visits = room.transit; chunks = room.chunks }) rooms.now) }
+    ensures { IfOk result (λ sheets. sheets.items ≡ map (λ room. record { chunks = room.chunks }) rooms.now) }
 {
     let mut sheets = Vec::with_capacity(alloc, rooms.len())?;
     for room in rooms {
         sheets.push(Sheet {
-            visits: Vec::with_capacity(alloc, room.transit as usize)?,
             mapped: Vec::with_capacity(alloc, room.chunks as usize)?,
         })?;
     }
@@ -113,9 +109,10 @@ fn sheets_of(alloc: Global, rooms: &[Room]) -> Result<Vec<Sheet>, AllocError>
 }
 
 impl Blank {
-    /// Room for the record of a run of so many CPUs, whose zones have these rooms, and whose log has at most so many entries.
-    pub fn new(alloc: Global, cpus: u32, rooms: &[Room], entries: u32) -> Result<Blank, AllocError>
-        requires { entries ≡ most_entries rooms.now }
+    /// Room for the record of a run of so many CPUs, whose zones have these rooms.
+    ///
+    /// Visits and log need none: they are moved into the record.
+    pub fn new(alloc: Global, cpus: u32, rooms: &[Room]) -> Result<Blank, AllocError>
         ensures { IfOk result (λ blank. IsBlankFor rooms.now cpus blank) }
     {
         Ok(Blank {
@@ -123,37 +120,34 @@ impl Blank {
             visits: Vec::with_capacity(alloc, rooms.len())?,
             mapped: Vec::with_capacity(alloc, rooms.len())?,
             sheets: sheets_of(alloc, rooms)?,
-            log: Vec::with_capacity(alloc, entries as usize)?,
         })
     }
 
     /// The record of these replies, these zones and this supply.
-    pub fn record(self, replies: Vec<ReplySheet>, books: &[Book], supply: &Supply) -> Record
+    pub fn record(self, replies: Vec<ReplySheet>, books: Vec<Book>, supply: Supply) -> Record
         requires replies { vec_len replies ≤ self.cpus }
-        requires visits { length books.now ≤ self.visits }
-        requires mapped { length books.now ≤ self.mapped }
-        requires sheets { HasRoomFor books.now self.sheets }
-        requires log { supply.now.room ≤ self.log }
+        requires visits { length books.items ≤ self.visits }
+        requires mapped { length books.items ≤ self.mapped }
+        requires sheets { HasRoomFor books.items self.sheets }
         ensures { result ≡ record {
           replies = map (λ r. r.items) replies.items;
-          visits = map (λ book. book.visits) books.now;
-          mapped = map (λ book. map (λ chunk. chunk.mapped) book.zone.chunks) books.now;
-          supply = supply.now.log;
+          visits = map (λ book. book.visits) books.items;
+          mapped = map (λ book. map (λ chunk. chunk.mapped) book.zone.chunks) books.items;
+          supply = supply.log;
         } }
     {
         let Blank {
             replies: by_cpu,
-            mut visits,
-            mut mapped,
+            visits,
+            mapped,
             sheets,
-            log,
         } = self;
-        fill(sheets, books, &mut visits, &mut mapped);
+        let marks = mapped_of(sheets, &books, mapped);
         Record {
             replies: replies_of(replies, by_cpu),
-            visits: Items::from_vec(visits),
-            mapped: Items::from_vec(mapped),
-            supply: copied_within(log, supply.log()),
+            visits: visits_of(books, visits),
+            mapped: marks,
+            supply: supply.into_log(),
         }
     }
 }

@@ -9,7 +9,6 @@ mod settling;
 mod stepping;
 #[cfg(test)]
 mod tests;
-mod within;
 
 pub use machine::Machine;
 pub use running::replay;

@@ -9,7 +9,7 @@ ghost use Rattle.kz_machine.specs.Machine.{replies_at};
 ghost use Rattle.kz_machine.specs.Stands.{IsAt, IsTurn, IsRoundsEnd};
 
 use crate::blank::Blank;
-use crate::opening::{books_of, cpus_of, entries_of, replies_of};
+use crate::opening::{books_of, cpus_of, entries_of, limit_rooms, replies_of};
 use crate::settling::settle;
 use crate::stepping::one_step;
 use kz_book::Book;
@@ -51,15 +51,16 @@ impl Machine {
     {
         plans_are_fit();
         let rooms = rooms(alloc, bundle, plan)?;
-        let names = bundle.names.len() as u32;
         let entries = entries_of(&rooms);
+        let rooms = limit_rooms(alloc, bundle, plan, rooms)?;
+        let names = bundle.names.len() as u32;
         Ok(Machine {
             cpus: cpus_of(alloc, bundle.cpus, &rooms, names, bundle.pages.max(1))?,
             books: books_of(alloc, &rooms)?,
             supply: Supply::new(alloc, bundle.frames, bundle.pages, entries)?,
             replies: replies_of(alloc, bundle.traces.as_slice())?,
             round: 0,
-            blank: Blank::new(alloc, bundle.cpus, &rooms, entries)?,
+            blank: Blank::new(alloc, bundle.cpus, &rooms)?,
             rooms,
         })
     }
@@ -112,6 +113,6 @@ impl Machine {
             round: _,
             blank,
         } = self;
-        blank.record(replies, &books, &supply)
+        blank.record(replies, books, supply)
     }
 }

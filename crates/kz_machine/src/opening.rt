@@ -1,14 +1,19 @@
 //! What a machine opens with.
 ghost use Rattle.std.specs.Prelude.{◌≡◌, ℕ, ◌*◌, ◌^◌, ◌<◌, ◌≤◌, [], length, map, All, IfOk};
 ghost use Rattle.std.specs.List.{range_with_len};
+ghost use Rattle.kz_model.specs.Planned.{IsPlanned};
+ghost use Rattle.kz_model.specs.Rooms.{rooms_of};
 ghost use Rattle.kz_zone.specs.Room.{IsFit};
 ghost use Rattle.kz_cpu.specs.Cpu.{opened_cpu};
 ghost use Rattle.kz_machine.specs.Blank.{most_entries};
+ghost use Rattle.kz_machine.specs.Needs.{needed, needed_rooms};
 ghost use Rattle.kz_machine.specs.Opening.{AreOpened};
 
 use kz_book::Book;
+use kz_bundle::gifts;
 use kz_cpu::Cpu;
-use kz_model::{ReplySheet, Room, Trace};
+use kz_model::{Bundle, Plan, ReplySheet, Room, Trace};
+use kz_plan::plans_are_fit;
 use std::alloc::{AllocError, Global};
 
 /// A book for each zone.
@@ -62,4 +67,34 @@ pub fn entries_of(rooms: &[Room]) -> u32
     ensures { result ≡ most_entries rooms.now }
 {
     2 * rooms.iter().map(|room| room.transit).sum::<u32>()
+}
+
+/// Leaves a room no more than a run with so many frames can use, in which so many lines give a block away.
+fn limit(room: &mut Room, frames: u32, gifts: u32)
+    requires pages { 0 < room.old.params.pages }
+    requires frames { frames ≤ 8192 }
+    ensures { room.new ≡ needed frames gifts room.old }
+{
+    let full = frames / room.params.pages;
+    room.chunks = room.chunks.min(room.transit).min(full + 1);
+    room.transit = gifts;
+}
+
+/// The zones' rooms, each left no more than the bundle's run can use.
+pub fn limit_rooms(
+    alloc: Global,
+    bundle: &Bundle,
+    plan: &Plan,
+    mut rooms: Vec<Room>,
+) -> Result<Vec<Room>, AllocError>
+    requires planned { IsPlanned bundle.now plan.now }
+    requires rooms { rooms.items ≡ rooms_of bundle.now plan.now }
+    ensures { IfOk result (λ rooms. rooms.items ≡ needed_rooms bundle.now plan.now) }
+{
+    plans_are_fit();
+    let gifts = gifts(alloc, bundle, plan)?;
+    for zone in 0..rooms.len() {
+        limit(&mut rooms[zone], bundle.frames, gifts[zone]);
+    }
+    Ok(rooms)
 }

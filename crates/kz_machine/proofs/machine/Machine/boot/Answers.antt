@@ -26,15 +26,21 @@ entries_of-entries-requires c =
 
 pub cpus_of-requires-clause-fit : goal.cpus_of-requires-clause-fit
 cpus_of-requires-clause-fit c =
-    subst (λ (rooms : List Room). All IsFit rooms) (sym (c.deref-2.ensures.value ∙ c.in_ok-rooms.ensures)) (rooms_fit c.args.bundle.now c.args.plan.now c.requires.is_valid (c.plans_are_fit.ensures c.args.bundle.now c.args.plan.now c.requires))
+    let b = c.args.bundle.now in
+    let plan = c.args.plan.now in
+    subst (λ (rooms : List Room). All IsFit rooms) (sym (c.deref-2.ensures.value ∙ c.in_ok-rooms-2.ensures)) (rooms_fit b plan c.requires.is_valid (c.plans_are_fit.ensures b plan c.requires))
 
 pub cpus_of-requires-clause-cpus : goal.cpus_of-requires-clause-cpus
 cpus_of-requires-clause-cpus c =
-    subst (λ (rooms : List Room). All (λ room. room.params.cpus ≡ c.args.bundle.now.cpus) rooms) (sym (c.deref-2.ensures.value ∙ c.in_ok-rooms.ensures)) (rooms_cpus c.args.bundle.now c.args.plan.now)
+    let b = c.args.bundle.now in
+    let plan = c.args.plan.now in
+    subst (λ (rooms : List Room). All (λ room. room.params.cpus ≡ b.cpus) rooms) (sym (c.deref-2.ensures.value ∙ c.in_ok-rooms-2.ensures)) (rooms_cpus b plan)
 
 pub books_of-requires : goal.books_of-requires
 books_of-requires c =
-    subst (λ (rooms : List Room). All IsFit rooms) (sym (c.deref-3.ensures.value ∙ c.in_ok-rooms.ensures)) (rooms_fit c.args.bundle.now c.args.plan.now c.requires.is_valid (c.plans_are_fit.ensures c.args.bundle.now c.args.plan.now c.requires))
+    let b = c.args.bundle.now in
+    let plan = c.args.plan.now in
+    subst (λ (rooms : List Room). All IsFit rooms) (sym (c.deref-3.ensures.value ∙ c.in_ok-rooms-2.ensures)) (rooms_fit b plan c.requires.is_valid (c.plans_are_fit.ensures b plan c.requires))
 
 pub replies_of-requires : goal.replies_of-requires
 replies_of-requires c = subst (λ (traces : List (List TraceStep)). All (λ trace. length trace ≤ 1000000) traces) (sym c.as_slice.ensures) (short_traces c.args.bundle.now c.requires.is_valid)
@@ -43,14 +49,12 @@ pub returns : goal.returns
 returns c =
     let b = c.args.bundle.now in
     let plan = c.args.plan.now in
-    let rooms = c.in_ok-rooms.ensures in
-    let seen = c.deref.ensures.value ∙ rooms in
-    let entries = c.entries_of-entries.ensures ∙ ap most_entries seen in
+    let entries = c.entries_of-entries.ensures ∙ ap most_entries (c.deref.ensures.value ∙ c.in_ok-rooms.ensures) in
     opens_at b plan _ c.requires (c.plans_are_fit.ensures b plan c.requires)
-    (c.in_ok-cpus_of.ensures ∙ ap₂ (λ (l : List Room) names. map (λ cpu. opened_cpu cpu l names) (range_with_len 0 b.cpus)) (c.deref-2.ensures.value ∙ rooms) c.len-names.ensures)
-    (subst (λ (l : List Room). AreOpened l c.in_ok-books_of.field-0.items) (c.deref-3.ensures.value ∙ rooms) c.in_ok-books_of.ensures)
-    rooms
+    (c.in_ok-cpus_of.ensures ∙ ap₂ (λ (l : List Room) names. map (λ cpu. opened_cpu cpu l names) (range_with_len 0 b.cpus)) (c.deref-2.ensures.value ∙ c.in_ok-rooms-2.ensures) c.len-names.ensures)
+    (subst (λ (l : List Room). AreOpened l c.in_ok-books_of.field-0.items) (c.deref-3.ensures.value ∙ c.in_ok-rooms-2.ensures) c.in_ok-books_of.ensures)
+    c.in_ok-rooms-2.ensures
     (c.in_ok-new.ensures ∙ ap (λ n. let s : Supply = record { frames = b.frames; pages = b.pages; room = n; log = [] } in s) entries)
     (c.in_ok-replies_of.ensures ∙ ap (λ (traces : List (List TraceStep)). map (λ trace. let r : ReplySheet = record { room = length trace; items = [] } in r) traces) c.as_slice.ensures)
     refl
-    (subst (λ (l : List Room). IsBlankFor l b.cpus c.in_ok-new-2.field-0) (c.deref-4.ensures.value ∙ rooms) c.in_ok-new-2.ensures)
+    (subst (λ (l : List Room). IsBlankFor l b.cpus c.in_ok-new-2.field-0) (c.deref-4.ensures.value ∙ c.in_ok-rooms-2.ensures) c.in_ok-new-2.ensures)

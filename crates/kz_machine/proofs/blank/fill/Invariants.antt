@@ -1,7 +1,0 @@
-use Rattle.std.proofs.Common.{◌≡◌, ◌≤◌, ◌++◌, map, take, length, vec_capacity}
-use Rattle.kz_machine.proofs.blank.fill.Given as goal
-
-abbrev pub invariant-loop-sheet : goal.invariant-loop-sheet
-invariant-loop-sheet l =
-    (l.visits.items ≡ map (λ book. book.visits) (take (length l.yielded) l.books)) × (l.mapped.items ≡ map (λ book. map (λ chunk. chunk.mapped) book.zone.chunks) (take (length l.yielded) l.books))
-    × (l.yielded ++ l.sheet-iterator.rest.items ≡ l.fn.sheets.items) × (length l.books ≤ vec_capacity l.visits) × (length l.books ≤ vec_capacity l.mapped)
