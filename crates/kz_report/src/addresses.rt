@@ -36,9 +36,10 @@ fn zone_of_type(plan: &Plan, of: u32) -> u32
 pub fn type_of_name(bundle: &Bundle, name: u32) -> u32
     ensures { result ≡ type_at bundle.now name }
 {
-    match bundle.names.get(name as usize) {
-        Some(row) => row.of,
-        None => 0,
+    if (name as usize) < bundle.names.len() {
+        bundle.names.of(name as usize)
+    } else {
+        0
     }
 }
 

@@ -1,4 +1,4 @@
-ghost use Rattle.std.specs.Prelude.{All, IfOk};
+ghost use Rattle.std.specs.Prelude.{◌≡◌, length, All, IfOk};
 ghost use Rattle.kz_model.specs.Planned.{IsFitRow};
 
 use crate::asks::write_asks;
@@ -9,8 +9,8 @@ use crate::rounds::write_rounds;
 use crate::uses::{Uses, count_trace, write_use};
 use crate::zones::{write_chunks, write_visits};
 use kz_model::{
-    Act, Answer, Ask, Block, Bundle, Geometry, Items, Name, NameRow, Piece, Plan, Reply,
-    ReplySheet, Seed, SupplyEntry, Trace, TraceStep, Types, Visit, ZoneRow,
+    Act, Answer, Ask, Block, Bundle, Geometry, Items, Name, NameRow, NameRows, Piece, Plan,
+    Replies, Reply, ReplySheet, Seed, SupplyEntry, Trace, Types, Visit, ZoneRow,
 };
 use std::alloc::{AllocError, Global};
 use std::test::Fail;
@@ -47,7 +47,7 @@ fn two_zones(alloc: Global) -> Result<Plan, AllocError>
 
 /// A bundle of two rounds, with the names 0 of type 0 and 1 of type 1.
 fn two_names(alloc: Global) -> Result<Bundle, AllocError> {
-    let mut names = Vec::new(alloc);
+    let mut names = NameRows::with_capacity(alloc, 2)?;
     for of in 0..2 {
         names.push(NameRow {
             name: Name::of(b"x"),
@@ -64,7 +64,7 @@ fn two_names(alloc: Global) -> Result<Bundle, AllocError> {
         magazine: 2,
         depot: 1,
         types: Types::new(alloc),
-        names: Items::from_vec(names),
+        names,
         rounds: 2,
         traces: Items::from_vec(Vec::new(alloc)),
         order: None,
@@ -115,11 +115,7 @@ fn replies_of_every_kind(rt: HostRuntime) -> Result<(), Fail> {
         pages: &pages,
     };
     let mut trace = Trace::new(alloc);
-    trace.push(TraceStep {
-        line: 0,
-        round: 0,
-        act: Act::Alloc { name: 0, of: 0 },
-    })?;
+    trace.put(0, 0, Act::Alloc { name: 0, of: 0 })?;
     let replies = [
         Reply::Block {
             block: Block { chunk: 1, index: 3 },
@@ -240,6 +236,29 @@ fn a_log_of_two_zones(rt: HostRuntime) -> Result<(), Fail> {
     Ok(())
 }
 
+/// An allocation, and in the next round another and a free.
+fn three_lines(alloc: Global) -> Result<Trace, Fail>
+    ensures { IfOk result (λ trace. length trace ≡ 3) }
+{
+    let mut trace = Trace::new(alloc);
+    trace.put(0, 0, Act::Alloc { name: 0, of: 0 })?;
+    trace.put(0, 1, Act::AllocZero { name: 1, of: 1 })?;
+    trace.put(0, 1, Act::Free { name: 0, of: None })?;
+    Ok(trace)
+}
+
+/// Two blocks, and a free that was done.
+fn three_replies(alloc: Global) -> Result<Replies, Fail>
+    ensures { IfOk result (λ replies. length replies ≡ 3) }
+{
+    let block = Block { chunk: 0, index: 1 };
+    let mut sheet = ReplySheet::new(alloc, 3)?;
+    sheet.push(&Reply::Block { block });
+    sheet.push(&Reply::Block { block });
+    sheet.push(&Reply::Done);
+    Ok(sheet.finish())
+}
+
 #[test]
 fn rounds_of_two_zones(rt: HostRuntime) -> Result<(), Fail> {
     let alloc = rt.alloc();
@@ -251,31 +270,8 @@ fn rounds_of_two_zones(rt: HostRuntime) -> Result<(), Fail> {
         answer: Answer::Base { page },
     });
     let pages = Pages::of_log(alloc, 2, &log)?;
-    let block = Block { chunk: 0, index: 1 };
-    let mut trace = Trace::new(alloc);
-    let first = Act::Alloc { name: 0, of: 0 };
-    let next = Act::AllocZero { name: 1, of: 1 };
-    let last = Act::Free { name: 0, of: None };
-    trace.push(TraceStep {
-        line: 0,
-        round: 0,
-        act: first,
-    })?;
-    trace.push(TraceStep {
-        line: 0,
-        round: 1,
-        act: next,
-    })?;
-    trace.push(TraceStep {
-        line: 0,
-        round: 1,
-        act: last,
-    })?;
-    let mut sheet = ReplySheet::new(alloc, 3)?;
-    sheet.push(&Reply::Block { block });
-    sheet.push(&Reply::Block { block });
-    sheet.push(&Reply::Done);
-    let replies = sheet.finish();
+    let trace = three_lines(alloc)?;
+    let replies = three_replies(alloc)?;
     let mut out = Vec::new(alloc);
     let given = Given {
         bundle: &bundle,
@@ -283,19 +279,11 @@ fn rounds_of_two_zones(rt: HostRuntime) -> Result<(), Fail> {
         pages: &pages,
     };
     write_rounds(&mut out, &given, &trace, &replies)?;
-    let mut uses = Vec::from_slice(
-        alloc,
-        &[
-            Uses {
-                allocs: 0,
-                frees: 0,
-            },
-            Uses {
-                allocs: 0,
-                frees: 0,
-            },
-        ],
-    )?;
+    let unused = Uses {
+        allocs: 0,
+        frees: 0,
+    };
+    let mut uses = Vec::from_slice(alloc, &[unused, unused])?;
     count_trace(&mut uses, &bundle, &trace, &replies);
     for of in 0..2 {
         if of < uses.len() {
