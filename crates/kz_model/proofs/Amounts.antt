@@ -182,20 +182,26 @@ abbrev pub new_gifts : Step → ℕ
 new_gifts (Give name to) = 1
 new_gifts step = 0
 
--- the amounts after a step with these asks and answers, and so many new gifts
-pub record Amounts (p : ZoneParams) (zone : ℕ) (s t : Shared) (asks : List Ask) (answers : List Answer) (gifts : ℕ) : Type 0 where
+-- how many chunks a step adds at most
+abbrev pub new_chunks_most : Step → ℕ
+new_chunks_most (Alloc name) = 1
+new_chunks_most (AllocZero name) = 1
+new_chunks_most step = 0
+
+-- the amounts after a step with these asks and answers, and so many new gifts and chunks
+pub record Amounts (p : ZoneParams) (zone : ℕ) (s t : Shared) (asks : List Ask) (answers : List Answer) (gifts growth : ℕ) : Type 0 where
   pub pages : p.pages * mapped_count t.chunks + returned_in (entries zone asks answers) ≡ p.pages * mapped_count s.chunks + granted_in (entries zone asks answers)
-  pub entries_few : length asks + mapped_count t.chunks ≤ mapped_count s.chunks + 2
+  pub entries_few : length asks + mapped_count t.chunks ≤ mapped_count s.chunks + 2 * growth
   pub transit : length t.transit ≤ length s.transit + gifts
   pub chunks : length t.chunks ≡ length s.chunks + length (filter_map page_of answers)
-  pub chunks_few : length t.chunks ≤ length s.chunks + 1
+  pub chunks_few : length t.chunks ≤ length s.chunks + growth
   pub full : IsFull s t
 
 -- with no ask and as many chunks mapped
-still_amounts : (p : ZoneParams) (zone : ℕ) (s t : Shared) (answers : List Answer) (gifts : ℕ) → mapped_count t.chunks ≡ mapped_count s.chunks → length t.chunks ≡ length s.chunks → length t.transit ≤ length s.transit + gifts → length answers ≡ 0 →
-    Amounts p zone s t [] answers gifts
-still_amounts p zone s t [] gifts same long transit none = record { pages = ap (λ n. p.pages * n + 0) same; entries_few = omega (arith, same); transit = transit; chunks = omega (arith, long); chunks_few = omega (arith, long); full = omega (arith, long) }
-still_amounts p zone s t (a ∷ answers) gifts same long transit none = absurd (omega arith)
+still_amounts : (p : ZoneParams) (zone : ℕ) (s t : Shared) (answers : List Answer) (gifts growth : ℕ) → mapped_count t.chunks ≡ mapped_count s.chunks → length t.chunks ≡ length s.chunks → length t.transit ≤ length s.transit + gifts → length answers ≡ 0 →
+    Amounts p zone s t [] answers gifts growth
+still_amounts p zone s t [] gifts growth same long transit none = record { pages = ap (λ n. p.pages * n + 0) same; entries_few = omega (arith, same); transit = transit; chunks = omega (arith, long); chunks_few = omega (arith, long); full = omega (arith, long) }
+still_amounts p zone s t (a ∷ answers) gifts growth same long transit none = absurd (omega arith)
 
 -- no ask has no answer
 no_answers : (answers : List Answer) → length answers ≡ 0 → denied_by answers ≡ None
@@ -204,16 +210,16 @@ no_answers (a ∷ answers) e = absurd (omega arith)
 
 -- an allocation, where the zone grows or not
 grown_amounts : (p : ZoneParams) (zone : ℕ) (s : Shared) (own : Own) (a : Answer) (e : Effect) → fits (ask_to_grow p s) a ≡ true → mapped_count e.shared.chunks ≡ mapped_count s.chunks + 1 → length e.shared.chunks ≡ length s.chunks + new_chunks s → IsFull s e.shared → e.shared.transit ≡ s.transit →
-    Amounts p zone s (option_map_or (λ reply. unchanged reply s own) (denied_by (a ∷ [])) e).shared (ask_to_grow p s ∷ []) (a ∷ []) 0
+    Amounts p zone s (option_map_or (λ reply. unchanged reply s own) (denied_by (a ∷ [])) e).shared (ask_to_grow p s ∷ []) (a ∷ []) 0 1
 grown_amounts p zone s own a e fit mapped long full transit =
     elim (is_some (unmapped_place s.chunks)) as (λ b.
     let ask : Ask = if b then Frames p.pages else AskChunk p.submap p.pages in
-    fits ask a ≡ true → length e.shared.chunks ≡ length s.chunks + (if b then 0 else 1) → Amounts p zone s (option_map_or (λ reply. unchanged reply s own) (denied_by (a ∷ [])) e).shared (ask ∷ []) (a ∷ []) 0) [
+    fits ask a ≡ true → length e.shared.chunks ≡ length s.chunks + (if b then 0 else 1) → Amounts p zone s (option_map_or (λ reply. unchanged reply s own) (denied_by (a ∷ [])) e).shared (ask ∷ []) (a ∷ []) 0 1) [
       | true ↦ λ fit long. by_frames a fit long
       | false ↦ λ fit long. by_chunk a fit long
     ] fit long
   where
-    paid : (ask : Ask) (a : Answer) → pages_returned ask a ≡ 0 → pages_granted ask a ≡ p.pages → length e.shared.chunks ≡ length s.chunks + length (filter_map page_of (a ∷ [])) → length e.shared.chunks ≤ length s.chunks + 1 → Amounts p zone s e.shared (ask ∷ []) (a ∷ []) 0
+    paid : (ask : Ask) (a : Answer) → pages_returned ask a ≡ 0 → pages_granted ask a ≡ p.pages → length e.shared.chunks ≡ length s.chunks + length (filter_map page_of (a ∷ [])) → length e.shared.chunks ≤ length s.chunks + 1 → Amounts p zone s e.shared (ask ∷ []) (a ∷ []) 0 1
     paid ask a none all long few = record {
       pages = sums (p.pages * mapped_count e.shared.chunks) (p.pages * mapped_count s.chunks) (pages_returned ask a) (pages_granted ask a) none all (ap (λ n. p.pages * n) mapped ∙ mul-add p.pages (mapped_count s.chunks) 1 ∙ ap (λ n. p.pages * mapped_count s.chunks + n) (by_one p.pages));
       entries_few = omega (arith, mapped);
@@ -229,7 +235,7 @@ grown_amounts p zone s own a e fit mapped long full transit =
         sums : (m n r g : ℕ) → r ≡ 0 → g ≡ p.pages → m ≡ n + p.pages → m + (r + 0) ≡ n + (g + 0)
         sums m n r g e f h = omega arith
 
-    refused : (ask : Ask) (a : Answer) → pages_returned ask a ≡ 0 → pages_granted ask a ≡ 0 → filter_map page_of (a ∷ []) ≡ [] → Amounts p zone s s (ask ∷ []) (a ∷ []) 0
+    refused : (ask : Ask) (a : Answer) → pages_returned ask a ≡ 0 → pages_granted ask a ≡ 0 → filter_map page_of (a ∷ []) ≡ [] → Amounts p zone s s (ask ∷ []) (a ∷ []) 0 1
     refused ask a none nothing no_page = record {
       pages = ap (λ n. p.pages * mapped_count s.chunks + (n + 0)) (none ∙ sym nothing);
       entries_few = omega arith;
@@ -239,14 +245,14 @@ grown_amounts p zone s own a e fit mapped long full transit =
       full = omega arith;
     }
 
-    by_frames : (a : Answer) → fits (Frames p.pages) a ≡ true → length e.shared.chunks ≡ length s.chunks + 0 → Amounts p zone s (option_map_or (λ reply. unchanged reply s own) (denied_by (a ∷ [])) e).shared (Frames p.pages ∷ []) (a ∷ []) 0
+    by_frames : (a : Answer) → fits (Frames p.pages) a ≡ true → length e.shared.chunks ≡ length s.chunks + 0 → Amounts p zone s (option_map_or (λ reply. unchanged reply s own) (denied_by (a ∷ [])) e).shared (Frames p.pages ∷ []) (a ∷ []) 0 1
     by_frames Given fit long = paid (Frames p.pages) Given refl refl long (omega (arith, long))
     by_frames (NoFrames free) fit long = refused (Frames p.pages) (NoFrames free) refl refl refl
     by_frames (Base page) fit long = absurd (cc)
     by_frames (NoSpace left) fit long = absurd (cc)
     by_frames Taken fit long = absurd (cc)
 
-    by_chunk : (a : Answer) → fits (AskChunk p.submap p.pages) a ≡ true → length e.shared.chunks ≡ length s.chunks + 1 → Amounts p zone s (option_map_or (λ reply. unchanged reply s own) (denied_by (a ∷ [])) e).shared (AskChunk p.submap p.pages ∷ []) (a ∷ []) 0
+    by_chunk : (a : Answer) → fits (AskChunk p.submap p.pages) a ≡ true → length e.shared.chunks ≡ length s.chunks + 1 → Amounts p zone s (option_map_or (λ reply. unchanged reply s own) (denied_by (a ∷ [])) e).shared (AskChunk p.submap p.pages ∷ []) (a ∷ []) 0 1
     by_chunk (Base page) fit long = paid (AskChunk p.submap p.pages) (Base page) refl refl long (omega (arith, long))
     by_chunk (NoSpace left) fit long = refused (AskChunk p.submap p.pages) (NoSpace left) refl refl refl
     by_chunk (NoFrames free) fit long = refused (AskChunk p.submap p.pages) (NoFrames free) refl refl refl
@@ -255,7 +261,7 @@ grown_amounts p zone s own a e fit mapped long full transit =
 
 allocated_amounts : (p : ZoneParams) (zone : ℕ) (s : Shared) (own : Own) (grows : Bool) (answers : List Answer) (e : Effect) → IsReady s e.shared grows →
     let asks : List Ask = if grows then ask_to_grow p s ∷ [] else [] in
-    all_answered asks answers ≡ true → length answers ≡ length asks → Amounts p zone s (option_map_or (λ reply. unchanged reply s own) (denied_by answers) e).shared asks answers 0
+    all_answered asks answers ≡ true → length answers ≡ length asks → Amounts p zone s (option_map_or (λ reply. unchanged reply s own) (denied_by answers) e).shared asks answers 0 1
 allocated_amounts p zone s own true [] e is all long = absurd (omega arith)
 allocated_amounts p zone s own true (a ∷ []) e is all long = grown_amounts p zone s own a e (first (fits (ask_to_grow p s) a) true all) is.mapped is.long is.full is.transit
   where
@@ -264,7 +270,7 @@ allocated_amounts p zone s own true (a ∷ []) e is all long = grown_amounts p z
     first false c e = absurd (cc)
 allocated_amounts p zone s own true (a ∷ other ∷ answers) e is all long = absurd (omega arith)
 allocated_amounts p zone s own false (a ∷ answers) e is all long = absurd (omega arith)
-allocated_amounts p zone s own false [] e is all long = still_amounts p zone s e.shared [] 0 (is.mapped ∙ same (mapped_count s.chunks)) (is.long ∙ same (length s.chunks)) (omega (arith, ap (λ (l : List Gift). length l) is.transit)) refl
+allocated_amounts p zone s own false [] e is all long = still_amounts p zone s e.shared [] 0 1 (is.mapped ∙ same (mapped_count s.chunks)) (is.long ∙ same (length s.chunks)) (omega (arith, ap (λ (l : List Gift). length l) is.transit)) refl
   where
     same : (n : ℕ) → n + 0 ≡ n
     same n = omega arith
@@ -292,7 +298,7 @@ none_denied pages (suc n) (NoFrames free ∷ answers) all long = absurd (cc)
 
 trimmed_amounts : (p : ZoneParams) (zone : ℕ) (s : Shared) (cpu : ℕ) (own : Own) (answers : List Answer) →
     let asks = replicate (count_whole p (before_unmapping s)) (Back p.pages) in
-    all_answered asks answers ≡ true → length answers ≡ length asks → Amounts p zone s (option_map_or (λ reply. unchanged reply s own) (denied_by answers) (action p s cpu own Trim)).shared asks answers 0
+    all_answered asks answers ≡ true → length answers ≡ length asks → Amounts p zone s (option_map_or (λ reply. unchanged reply s own) (denied_by answers) (action p s cpu own Trim)).shared asks answers 0 0
 trimmed_amounts p zone s cpu own answers all long =
     let n = count_whole p (before_unmapping s) in
     let chunks = before_unmapping s in
@@ -323,7 +329,7 @@ few_gifts transit place = omega (arith, length-append (take place transit) (drop
 
 action_amounts : (p : ZoneParams) (zone : ℕ) (s : Shared) (cpu : ℕ) (own : Own) (step : Step) (answers : List Answer) →
     let asks = asks_of_action p s own.stack step in
-    all_answered asks answers ≡ true → length answers ≡ length asks → Amounts p zone s (option_map_or (λ reply. unchanged reply s own) (denied_by answers) (action p s cpu own step)).shared asks answers (new_gifts step)
+    all_answered asks answers ≡ true → length answers ≡ length asks → Amounts p zone s (option_map_or (λ reply. unchanged reply s own) (denied_by answers) (action p s cpu own step)).shared asks answers (new_gifts step) (new_chunks_most step)
 action_amounts p zone s cpu own (Alloc name) answers all long =
     allocated_amounts p zone s own ((length own.stack == 0) && must_grow s) answers (action p s cpu own (Alloc name)) (made_ready p s own.stack) all long
 action_amounts p zone s cpu own (AllocZero name) answers all long =
@@ -336,29 +342,29 @@ action_amounts p zone s cpu own (AllocZero name) answers all long =
     (record { mapped = same_mapped ∙ is.mapped; long = same_long ∙ is.long; full = omega (arith, is.full, same_mapped, same_long); transit = is.transit }) all long
 action_amounts p zone s cpu own (Free name asked) answers all long =
     rw (no_answers answers long)
-    (elim (nat_le (2 * p.magazine) (length own.stack)) as (λ full. Amounts p zone s (if full then spilled p (take p.magazine own.stack) s else s) [] answers 0) [
-      | true ↦ let is = spilled_still p (take p.magazine own.stack) s in still_amounts p zone s (spilled p (take p.magazine own.stack) s) answers 0 is.mapped is.long (omega (arith, ap (λ (l : List Gift). length l) is.transit)) long
-      | false ↦ still_amounts p zone s s answers 0 refl refl (omega arith) long
+    (elim (nat_le (2 * p.magazine) (length own.stack)) as (λ full. Amounts p zone s (if full then spilled p (take p.magazine own.stack) s else s) [] answers 0 0) [
+      | true ↦ let is = spilled_still p (take p.magazine own.stack) s in still_amounts p zone s (spilled p (take p.magazine own.stack) s) answers 0 0 is.mapped is.long (omega (arith, ap (λ (l : List Gift). length l) is.transit)) long
+      | false ↦ still_amounts p zone s s answers 0 0 refl refl (omega arith) long
     ])
 action_amounts p zone s cpu own (Give name to) answers all long =
-    rw (no_answers answers long) (still_amounts p zone s (action p s cpu own (Give name to)).shared answers 1 refl refl (omega (arith, length-append s.transit (record { to = to; name = name; block = block_of (bound_of name own.names) } ∷ []))) long)
+    rw (no_answers answers long) (still_amounts p zone s (action p s cpu own (Give name to)).shared answers 1 0 refl refl (omega (arith, length-append s.transit (record { to = to; name = name; block = block_of (bound_of name own.names) } ∷ []))) long)
 action_amounts p zone s cpu own (Take name) answers all long =
-    rw (no_answers answers long) (still_amounts p zone s (action p s cpu own (Take name)).shared answers 0 refl refl (few_gifts s.transit _) long)
+    rw (no_answers answers long) (still_amounts p zone s (action p s cpu own (Take name)).shared answers 0 0 refl refl (few_gifts s.transit _) long)
 action_amounts p zone s cpu own (Read name off len) answers all long =
-    rw (no_answers answers long) (still_amounts p zone s s answers 0 refl refl (omega arith) long)
+    rw (no_answers answers long) (still_amounts p zone s s answers 0 0 refl refl (omega arith) long)
 action_amounts p zone s cpu own (Write name off bytes) answers all long =
-    rw (no_answers answers long) (still_amounts p zone s (action p s cpu own (Write name off bytes)).shared answers 0 (mapped-set_same s.chunks (block_of (bound_of name own.names)).chunk _ refl) (length-set s.chunks (block_of (bound_of name own.names)).chunk _) (omega arith) long)
+    rw (no_answers answers long) (still_amounts p zone s (action p s cpu own (Write name off bytes)).shared answers 0 0 (mapped-set_same s.chunks (block_of (bound_of name own.names)).chunk _ refl) (length-set s.chunks (block_of (bound_of name own.names)).chunk _) (omega arith) long)
 action_amounts p zone s cpu own Flush answers all long =
-    rw (no_answers answers long) (still_amounts p zone s (action p s cpu own Flush).shared answers 0 (mapped-all_idle own.stack s.chunks) (length-all_idle own.stack s.chunks) (omega arith) long)
+    rw (no_answers answers long) (still_amounts p zone s (action p s cpu own Flush).shared answers 0 0 (mapped-all_idle own.stack s.chunks) (length-all_idle own.stack s.chunks) (omega arith) long)
 action_amounts p zone s cpu own Trim answers all long = trimmed_amounts p zone s cpu own answers all long
 
 pub effect_amounts : (p : ZoneParams) (zone : ℕ) (s : Shared) (cpu : ℕ) (own : Own) (step : Step) (answers : List Answer) →
     let asks = asks_of p s cpu own step in
-    all_answered asks answers ≡ true → length answers ≡ length asks → Amounts p zone s (effect_of p s cpu own step answers).shared asks answers (new_gifts step)
+    all_answered asks answers ≡ true → length answers ≡ length asks → Amounts p zone s (effect_of p s cpu own step answers).shared asks answers (new_gifts step) (new_chunks_most step)
 effect_amounts p zone s cpu own step answers =
     elim (refusal p s cpu own step) as (λ (o : Option Reply).
     let asks : List Ask = if is_some o then [] else asks_of_action p s own.stack step in
-    all_answered asks answers ≡ true → length answers ≡ length asks → Amounts p zone s (option_map_or (λ reply. unchanged reply s own) (else_refused o (denied_by answers)) (action p s cpu own step)).shared asks answers (new_gifts step)) [
-      | Some r ↦ λ all long. still_amounts p zone s s answers (new_gifts step) refl refl (omega arith) long
+    all_answered asks answers ≡ true → length answers ≡ length asks → Amounts p zone s (option_map_or (λ reply. unchanged reply s own) (else_refused o (denied_by answers)) (action p s cpu own step)).shared asks answers (new_gifts step) (new_chunks_most step)) [
+      | Some r ↦ λ all long. still_amounts p zone s s answers (new_gifts step) (new_chunks_most step) refl refl (omega arith) long
       | None ↦ λ all long. action_amounts p zone s cpu own step answers all long
     ]

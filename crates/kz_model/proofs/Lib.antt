@@ -47,7 +47,7 @@ pub mod Sums
 pub mod Stocks
 pub mod Blocks
 pub mod PlayedAt
-pub mod Giving
+pub mod LineKinds
 pub mod Prefixes
 pub mod OrderJournals
 pub mod OrderVisits

@@ -22,14 +22,14 @@ use Rattle.kz_model.specs.declared.supply.Answer.{Answer}
 use Rattle.kz_model.specs.Zone.{Own, ZoneState, nothing_own, own_of}
 use Rattle.kz_model.specs.Rules.{Effect, needs_visit, effect_of, put_back, alone_step}
 use Rattle.kz_model.specs.Whole.{AreWithin, IsOwn, IsWhole}
-use Rattle.kz_model.specs.Amounts.{sum_below, mapped_count, pages_held, granted_in, returned_in, stock_of, carried_of, lines_there, lines_done, zone_lines_done, is_giving, giving, gifts_done, zone_gifts_done}
+use Rattle.kz_model.specs.Amounts.{sum_below, mapped_count, pages_held, granted_in, returned_in, stock_of, carried_of, lines_there, lines_done, zone_lines_done, is_allocating, is_giving, of_kind, kind_done, zone_kind_done, zone_allocations_done, zone_gifts_done}
 use Rattle.kz_model.specs.Journal.{params_of, addressed, trace_of, steps_among, log_at, answers_at}
 use Rattle.kz_model.specs.Play.{ZonePlay, Play, no_play, zone_play, replies_so_far, line_to_play, zone_opened, play_opened, zone_after, effect_there, played, settling, zone_settled, round_ended}
 use Rattle.kz_model.specs.PlayedAt.{IsSupplied, IsReplyWithin, chunks_there, zone_of_line}
 use Rattle.kz_model.specs.PlayLaws.{HasElements}
 use Rattle.kz_model.specs.Report.{bases, page_of}
 use Rattle.kz_model.specs.Traces.{no_step}
-use Rattle.kz_model.proofs.Amounts.{Amounts, new_gifts, effect_amounts}
+use Rattle.kz_model.proofs.Amounts.{Amounts, new_gifts, new_chunks_most, effect_amounts}
 use Rattle.kz_model.proofs.Blocks.{within_more, reply_within}
 use Rattle.kz_model.proofs.OrderLines.{steps_among-append, entries, entries_there, answers_at-append, new_answers, are_new}
 use Rattle.kz_model.proofs.OrderRuns.{same_number, other_number}
@@ -46,9 +46,9 @@ pub record IsSound (b : Bundle) (plan : Plan) (s : Play) (zone : ℕ) (z : ZoneP
   pub whole : IsWhole (params_of b plan zone) z.state
   pub pages : (params_of b plan zone).pages * mapped_count z.state.shared.chunks + returned_in (log_at zone s.log) ≡ granted_in (log_at zone s.log)
   pub bases_long : length (bases zone s.log) ≡ length z.state.shared.chunks
-  pub chunks : length z.state.shared.chunks ≤ zone_lines_done b plan s zone
+  pub chunks : length z.state.shared.chunks ≤ zone_allocations_done b plan s zone
   pub framed : (params_of b plan zone).pages * length z.state.shared.chunks ≤ b.frames
-  pub entries_few : length (log_at zone s.log) + mapped_count z.state.shared.chunks ≤ 2 * zone_lines_done b plan s zone
+  pub entries_few : length (log_at zone s.log) + mapped_count z.state.shared.chunks ≤ 2 * zone_allocations_done b plan s zone
   pub gifts : length z.state.shared.transit ≤ zone_gifts_done b plan s zone
   pub visits : length z.visits + sum_below (slice_index z.late) b.cpus ≤ zone_lines_done b plan s zone
   pub carried : (cpu : ℕ) → cpu < b.cpus → carried_of cpu z.visits + slice_index z.late cpu ≡ lines_done b plan s zone cpu
@@ -62,18 +62,18 @@ abbrev pub AreFrames : Bundle → Plan → Play → Type 0
 AreFrames b plan s = (stock_of b s.log).free + sum_below (pages_held b plan s) (length plan.zones) ≡ b.frames
 
 -- with the same entries of the log and the same lines done
-sound_same : (b : Bundle) (plan : Plan) (s t : Play) (zone : ℕ) (z : ZonePlay) → log_at zone t.log ≡ log_at zone s.log → ((cpu : ℕ) → cpu < b.cpus → lines_done b plan t zone cpu ≡ lines_done b plan s zone cpu) → ((cpu : ℕ) → cpu < b.cpus → gifts_done b plan t zone cpu ≡ gifts_done b plan s zone cpu) → IsSound b plan s zone z → IsSound b plan t zone z
-sound_same b plan s t zone z log lines gifts is =
+sound_same : (b : Bundle) (plan : Plan) (s t : Play) (zone : ℕ) (z : ZonePlay) → log_at zone t.log ≡ log_at zone s.log → ((cpu : ℕ) → cpu < b.cpus → lines_done b plan t zone cpu ≡ lines_done b plan s zone cpu) → ((kind : Act → Bool) (cpu : ℕ) → cpu < b.cpus → kind_done b plan kind t zone cpu ≡ kind_done b plan kind s zone cpu) → IsSound b plan s zone z → IsSound b plan t zone z
+sound_same b plan s t zone z log lines kinds is =
     let done : zone_lines_done b plan t zone ≡ zone_lines_done b plan s zone = sum_below-same (lines_done b plan t zone) (lines_done b plan s zone) b.cpus lines in
-    let given : zone_gifts_done b plan t zone ≡ zone_gifts_done b plan s zone = sum_below-same (gifts_done b plan t zone) (gifts_done b plan s zone) b.cpus gifts in
+    let of_kinds : (kind : Act → Bool) → zone_kind_done b plan kind t zone ≡ zone_kind_done b plan kind s zone = λ kind. sum_below-same (kind_done b plan kind t zone) (kind_done b plan kind s zone) b.cpus (kinds kind) in
     record {
       whole = is.whole;
       pages = subst (λ (l : List SupplyEntry). (params_of b plan zone).pages * mapped_count z.state.shared.chunks + returned_in l ≡ granted_in l) (sym log) is.pages;
       bases_long = ap (λ (l : List SupplyEntry). length (filter_map page_of (map (λ (entry : SupplyEntry). entry.answer) l))) log ∙ is.bases_long;
-      chunks = subst (λ n. length z.state.shared.chunks ≤ n) (sym done) is.chunks;
+      chunks = subst (λ n. length z.state.shared.chunks ≤ n) (sym (of_kinds is_allocating)) is.chunks;
       framed = is.framed;
-      entries_few = subst (λ n. length (log_at zone t.log) + mapped_count z.state.shared.chunks ≤ 2 * n) (sym done) (subst (λ (l : List SupplyEntry). length l + mapped_count z.state.shared.chunks ≤ 2 * zone_lines_done b plan s zone) (sym log) is.entries_few);
-      gifts = subst (λ n. length z.state.shared.transit ≤ n) (sym given) is.gifts;
+      entries_few = subst (λ n. length (log_at zone t.log) + mapped_count z.state.shared.chunks ≤ 2 * n) (sym (of_kinds is_allocating)) (subst (λ (l : List SupplyEntry). length l + mapped_count z.state.shared.chunks ≤ 2 * zone_allocations_done b plan s zone) (sym log) is.entries_few);
+      gifts = subst (λ n. length z.state.shared.transit ≤ n) (sym (of_kinds is_giving)) is.gifts;
       visits = subst (λ n. length z.visits + sum_below (slice_index z.late) b.cpus ≤ n) (sym done) is.visits;
       carried = λ cpu lt. is.carried cpu lt ∙ sym (lines cpu lt);
     }
@@ -102,7 +102,7 @@ fit_max pages m n k frames le first second =
 abbrev pub Adds : (List TraceStep → ℕ) → Type 0
 Adds count = (xs ys : List TraceStep) → count (xs ++ ys) ≡ count xs + count ys
 
-count_within : (count : List TraceStep → ℕ) → Adds count → (lines : List TraceStep) (n : ℕ) → count (take n lines) ≤ count lines
+pub count_within : (count : List TraceStep → ℕ) → Adds count → (lines : List TraceStep) (n : ℕ) → count (take n lines) ≤ count lines
 count_within count adds lines n = omega (arith, ap count (take-append-drop n lines), adds (take n lines) (drop n lines))
 
 count_more : (count : List TraceStep → ℕ) → Adds count → (lines : List TraceStep) (n : ℕ) → n < length lines → count (take (n + 1) lines) ≡ count (take n lines) + count (slice_index_or lines n no_step ∷ [])
@@ -121,18 +121,18 @@ count_left count adds b s cpu lt some counts =
     (omega (arith, counts, count_more count adds (trace_of b cpu) n some, count_within count adds (trace_of b cpu) (n + 1)))
     (λ other in'. count_within count adds (trace_of b other) (length (replies_so_far s other)))
 
--- how many of these lines are on a zone, and how many of those give a block away
+-- how many of these lines are on a zone, and how many of those are of a kind
 abbrev pub lines_on : Bundle → Plan → ℕ → List TraceStep → ℕ
 lines_on b plan zone lines = length (steps_among b plan zone lines)
 
-abbrev pub gifts_on : Bundle → Plan → ℕ → List TraceStep → ℕ
-gifts_on b plan zone lines = lines_on b plan zone (giving lines)
+abbrev pub kind_on : Bundle → Plan → (Act → Bool) → ℕ → List TraceStep → ℕ
+kind_on b plan kind zone lines = lines_on b plan zone (of_kind kind lines)
 
 pub lines_add : (b : Bundle) (plan : Plan) (zone : ℕ) → Adds (lines_on b plan zone)
 lines_add b plan zone xs ys = ap (λ (l : List Step). length l) (steps_among-append b plan zone xs ys) ∙ length-append (steps_among b plan zone xs) (steps_among b plan zone ys)
 
-pub gifts_add : (b : Bundle) (plan : Plan) (zone : ℕ) → Adds (gifts_on b plan zone)
-gifts_add b plan zone xs ys = ap (lines_on b plan zone) (filter-append (λ (line : TraceStep). is_giving line.act) xs ys) ∙ lines_add b plan zone (giving xs) (giving ys)
+pub kind_adds : (b : Bundle) (plan : Plan) (kind : Act → Bool) (zone : ℕ) → Adds (kind_on b plan kind zone)
+kind_adds b plan kind zone xs ys = ap (lines_on b plan zone) (filter-append (λ (line : TraceStep). kind line.act) xs ys) ∙ lines_add b plan zone (of_kind kind xs) (of_kind kind ys)
 
 -- one line, on its zone and on others
 pub line_here : (b : Bundle) (plan : Plan) (line : TraceStep) → lines_on b plan (addressed b plan line.act).0 (line ∷ []) ≡ 1
@@ -141,24 +141,24 @@ line_here b plan line = let there = addressed b plan line.act in ap (λ t. lengt
 line_away : (b : Bundle) (plan : Plan) (zone : ℕ) (line : TraceStep) → zone ≢ (addressed b plan line.act).0 → lines_on b plan zone (line ∷ []) ≡ 0
 line_away b plan zone line ne = let there = addressed b plan line.act in ap (λ t. length (if t then there.1 ∷ [] else [])) (other_number there.0 zone ne)
 
-pub gift_here : (b : Bundle) (plan : Plan) (line : TraceStep) → gifts_on b plan (addressed b plan line.act).0 (line ∷ []) ≡ (if is_giving line.act then 1 else 0)
-gift_here b plan line =
-    elim (is_giving line.act) as (λ g. lines_on b plan (addressed b plan line.act).0 (if g then line ∷ [] else []) ≡ (if g then 1 else 0)) [
+pub kind_here : (b : Bundle) (plan : Plan) (kind : Act → Bool) (line : TraceStep) → kind_on b plan kind (addressed b plan line.act).0 (line ∷ []) ≡ (if kind line.act then 1 else 0)
+kind_here b plan kind line =
+    elim (kind line.act) as (λ is. lines_on b plan (addressed b plan line.act).0 (if is then line ∷ [] else []) ≡ (if is then 1 else 0)) [
       | true ↦ line_here b plan line
       | false ↦ refl
     ]
 
--- no more lines give a block away than there are
-pub giving_few : (b : Bundle) (plan : Plan) (zone : ℕ) (lines : List TraceStep) → gifts_on b plan zone lines ≤ lines_on b plan zone lines
-giving_few b plan zone [] = omega arith
-giving_few b plan zone (line ∷ lines) =
+-- no more lines are of a kind than there are
+pub kind_within : (b : Bundle) (plan : Plan) (kind : Act → Bool) (zone : ℕ) (lines : List TraceStep) → kind_on b plan kind zone lines ≤ lines_on b plan zone lines
+kind_within b plan kind zone [] = omega arith
+kind_within b plan kind zone (line ∷ lines) =
     let there = addressed b plan line.act in
-    let few = giving_few b plan zone lines in
-    let gifts = steps_among b plan zone (giving lines) in
+    let few = kind_within b plan kind zone lines in
+    let some = steps_among b plan zone (of_kind kind lines) in
     let all = steps_among b plan zone lines in
-    elim (is_giving line.act) as (λ g. lines_on b plan zone (if g then line ∷ giving lines else giving lines) ≤ length (if there.0 == zone then there.1 ∷ all else all)) [
-      | true ↦ elim (there.0 == zone) as (λ t. length (if t then there.1 ∷ gifts else gifts) ≤ length (if t then there.1 ∷ all else all)) [ true ↦ omega (arith, few) | false ↦ few ]
-      | false ↦ elim (there.0 == zone) as (λ t. length gifts ≤ length (if t then there.1 ∷ all else all)) [ true ↦ omega (arith, few) | false ↦ few ]
+    elim (kind line.act) as (λ is. lines_on b plan zone (if is then line ∷ of_kind kind lines else of_kind kind lines) ≤ length (if there.0 == zone then there.1 ∷ all else all)) [
+      | true ↦ elim (there.0 == zone) as (λ t. length (if t then there.1 ∷ some else some) ≤ length (if t then there.1 ∷ all else all)) [ true ↦ omega (arith, few) | false ↦ few ]
+      | false ↦ elim (there.0 == zone) as (λ t. length some ≤ length (if t then there.1 ∷ all else all)) [ true ↦ omega (arith, few) | false ↦ few ]
     ]
 
 -- its step adds a gift where the line gives a block away
@@ -166,6 +166,12 @@ gives : (b : Bundle) (plan : Plan) (line : Act) → new_gifts (addressed b plan 
 gives b plan (act.Free name None) = refl
 gives b plan (act.Free name (Some of)) = refl
 gives b plan line = refl
+
+-- and a chunk at most where it allocates
+allocates : (b : Bundle) (plan : Plan) (line : Act) → new_chunks_most (addressed b plan line).1 ≡ (if is_allocating line then 1 else 0)
+allocates b plan (act.Free name None) = refl
+allocates b plan (act.Free name (Some of)) = refl
+allocates b plan line = refl
 
 pub lines_within : (b : Bundle) (plan : Plan) (s : Play) (zone cpu : ℕ) → lines_done b plan s zone cpu ≤ lines_there b plan zone cpu
 lines_within b plan s zone cpu = count_within (lines_on b plan zone) (lines_add b plan zone) (trace_of b cpu) (length (replies_so_far s cpu))
@@ -254,18 +260,16 @@ module _ (b : Bundle) (plan : Plan) (s : Play) (cpu : ℕ) (elements : HasElemen
   done_away : (zone other : ℕ) → zone ≢ at → lines_done b plan t zone other ≡ lines_done b plan s zone other
   done_away zone other ne = count_none (lines_on b plan zone) (lines_add b plan zone) (line_away b plan zone (line_to_play b s cpu) ne) other
 
-  gifts_away : (zone other : ℕ) → zone ≢ at → gifts_done b plan t zone other ≡ gifts_done b plan s zone other
-  gifts_away zone other ne =
-      let none : gifts_on b plan zone (line_to_play b s cpu ∷ []) ≡ 0 = omega (arith, giving_few b plan zone (line_to_play b s cpu ∷ []), line_away b plan zone (line_to_play b s cpu) ne) in
-      count_none (gifts_on b plan zone) (gifts_add b plan zone) none other
+  kind_away : (kind : Act → Bool) (zone other : ℕ) → zone ≢ at → kind_done b plan kind t zone other ≡ kind_done b plan kind s zone other
+  kind_away kind zone other ne =
+      let none : kind_on b plan kind zone (line_to_play b s cpu ∷ []) ≡ 0 = omega (arith, kind_within b plan kind zone (line_to_play b s cpu ∷ []), line_away b plan zone (line_to_play b s cpu) ne) in
+      count_none (kind_on b plan kind zone) (kind_adds b plan kind zone) none other
 
   all_done : zone_lines_done b plan t at ≡ zone_lines_done b plan s at + 1
   all_done = count_all (lines_on b plan at) (lines_add b plan at) ∙ ap (λ n. zone_lines_done b plan s at + n) (line_here b plan (line_to_play b s cpu))
 
-  all_given : zone_gifts_done b plan t at ≡ zone_gifts_done b plan s at + new_gifts step
-  all_given =
-      count_all (gifts_on b plan at) (gifts_add b plan at)
-      ∙ ap (λ n. zone_gifts_done b plan s at + n) (gift_here b plan (line_to_play b s cpu) ∙ sym (gives b plan (line_to_play b s cpu).act))
+  all_of_kind : (kind : Act → Bool) → zone_kind_done b plan kind t at ≡ zone_kind_done b plan kind s at + (if kind (line_to_play b s cpu).act then 1 else 0)
+  all_of_kind kind = count_all (kind_on b plan kind at) (kind_adds b plan kind at) ∙ ap (λ n. zone_kind_done b plan kind s at + n) (kind_here b plan kind (line_to_play b s cpu))
 
   -- the entries of the log
 
@@ -280,8 +284,8 @@ module _ (b : Bundle) (plan : Plan) (s : Play) (cpu : ℕ) (elements : HasElemen
   effect_given : effect ≡ effect_of p z.state.shared cpu (own_of z.state cpu) step given
   effect_given = ap (λ (answers : List Answer). effect_of p z.state.shared cpu (own_of z.state cpu) step answers) (entries_answers at asks given long)
 
-  amounts : Amounts p at z.state.shared effect.shared asks given (new_gifts step)
-  amounts = subst (λ (e : Effect). Amounts p at z.state.shared e.shared asks given (new_gifts step)) (sym effect_given) (effect_amounts p at z.state.shared cpu (own_of z.state cpu) step given (are_new b s.log asks).all long)
+  amounts : Amounts p at z.state.shared effect.shared asks given (new_gifts step) (new_chunks_most step)
+  amounts = subst (λ (e : Effect). Amounts p at z.state.shared e.shared asks given (new_gifts step) (new_chunks_most step)) (sym effect_given) (effect_amounts p at z.state.shared cpu (own_of z.state cpu) step given (are_new b s.log asks).all long)
 
   some_elements : 0 < p.count
   some_elements = All-get_or (λ (row : ZoneRow). 0 < row.shape.count) plan.zones at _ in-zones elements
@@ -369,11 +373,11 @@ module _ (b : Bundle) (plan : Plan) (s : Play) (cpu : ℕ) (elements : HasElemen
           whole = whole_after is.whole;
           pages = subst (λ (l : List SupplyEntry). p.pages * mapped_count after.state.shared.chunks + returned_in l ≡ granted_in l) (sym log_mine) (omega (arith, is.pages, amounts.pages, granted_in-append log new, returned_in-append log new));
           bases_long = bases_after;
-          chunks = omega (arith, is.chunks, amounts.chunks_few, all_done);
+          chunks = omega (arith, is.chunks, amounts.chunks_few, allocates b plan (line_to_play b s cpu).act, all_of_kind is_allocating);
           framed = fit_max p.pages (length z.state.shared.chunks) (mapped_count effect.shared.chunks) (length effect.shared.chunks) b.frames amounts.full is.framed (mapped_framed all);
-          entries_few = subst (λ (l : List SupplyEntry). length l + mapped_count after.state.shared.chunks ≤ 2 * zone_lines_done b plan t at) (sym log_mine)
-              (omega (arith, is.entries_few, amounts.entries_few, length-append log new, entries_long at asks given long, all_done));
-          gifts = omega (arith, is.gifts, amounts.transit, all_given);
+          entries_few = subst (λ (l : List SupplyEntry). length l + mapped_count after.state.shared.chunks ≤ 2 * zone_allocations_done b plan t at) (sym log_mine)
+              (omega (arith, is.entries_few, amounts.entries_few, length-append log new, entries_long at asks given long, allocates b plan (line_to_play b s cpu).act, all_of_kind is_allocating));
+          gifts = omega (arith, is.gifts, amounts.transit, gives b plan (line_to_play b s cpu).act, all_of_kind is_giving);
           visits = subst (λ n. length after.visits + sum_below (slice_index after.late) b.cpus ≤ n) (sym all_done) visits_after;
           carried = λ other in'. mine_or_other (λ other. other < b.cpus → carried_of other after.visits + slice_index after.late other ≡ lines_done b plan t at other) cpu other
               (λ in'. carried_mine ∙ sym done_mine) (λ ne in'. carried_other other ne in' ∙ sym (done_other other ne)) in';
@@ -383,7 +387,7 @@ module _ (b : Bundle) (plan : Plan) (s : Play) (cpu : ℕ) (elements : HasElemen
   line_sound each late_long all zone in' =
       mine_or_other (λ zone. zone < length plan.zones → IsSound b plan t zone (zone_play t zone)) at zone
       (λ in'. subst (IsSound b plan t at) (sym after_is) (sound_here (each at in') late_long all))
-      (λ ne in'. subst (IsSound b plan t zone) (sym (away_is zone ne)) (sound_same b plan s t zone (zone_play s zone) (log_away zone ne) (λ other lt. done_away zone other ne) (λ other lt. gifts_away zone other ne) (each zone in'))) in'
+      (λ ne in'. subst (IsSound b plan t zone) (sym (away_is zone ne)) (sound_same b plan s t zone (zone_play s zone) (log_away zone ne) (λ other lt. done_away zone other ne) (λ kind other lt. kind_away kind zone other ne) (each zone in'))) in'
 
   -- blocks
 

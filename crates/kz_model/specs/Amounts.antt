@@ -4,6 +4,8 @@ use Rattle.std.specs.List.{filter, fold}
 use Rattle.kz_model.specs.declared.bundle.Act.{Act}
 use Rattle.kz_model.specs.declared.bundle.Act.TheVariants as act
 use Rattle.kz_model.specs.declared.bundle.Bundle.{Bundle}
+use Rattle.kz_model.specs.declared.bundle.LineKind.{LineKind}
+use Rattle.kz_model.specs.declared.bundle.LineKind.TheVariants as line_kind
 use Rattle.kz_model.specs.declared.bundle.TraceStep.{TraceStep}
 use Rattle.kz_model.specs.declared.record.Plan.{Plan}
 use Rattle.kz_model.specs.declared.record.Visit.{Visit}
@@ -76,26 +78,50 @@ zone_lines b plan zone = sum_below (lines_there b plan zone) b.cpus
 abbrev pub zone_lines_done : Bundle → Plan → Play → ℕ → ℕ
 zone_lines_done b plan s zone = sum_below (lines_done b plan s zone) b.cpus
 
--- ---- gifts
+-- ---- lines of a kind
 
--- a line that gives a block away
+-- a line that may bring a new chunk, and one that gives a block away
+abbrev pub is_allocating : Act → Bool
+is_allocating (act.Alloc name of) = true
+is_allocating (act.AllocZero name of) = true
+is_allocating line = false
+
 abbrev pub is_giving : Act → Bool
 is_giving (act.Give name to) = true
 is_giving line = false
 
-abbrev pub giving : List TraceStep → List TraceStep
-giving lines = filter (λ line. is_giving line.act) lines
+-- whether a line is of this kind
+abbrev pub kind_of : LineKind → Act → Bool
+kind_of line_kind.Allocating = is_allocating
+kind_of line_kind.Giving = is_giving
 
--- how many lines of a CPU on a zone give a block away, and how many of those that are done
-abbrev pub gifts_there : Bundle → Plan → ℕ → ℕ → ℕ
-gifts_there b plan zone cpu = length (steps_among b plan zone (giving (trace_of b cpu)))
+abbrev pub of_kind : (Act → Bool) → List TraceStep → List TraceStep
+of_kind kind lines = filter (λ line. kind line.act) lines
 
-abbrev pub gifts_done : Bundle → Plan → Play → ℕ → ℕ → ℕ
-gifts_done b plan s zone cpu = length (steps_among b plan zone (giving (take (length (replies_so_far s cpu)) (trace_of b cpu))))
+-- how many lines of a CPU on a zone are of a kind, and how many of those that are done
+abbrev pub kind_there : Bundle → Plan → (Act → Bool) → ℕ → ℕ → ℕ
+kind_there b plan kind zone cpu = length (steps_among b plan zone (of_kind kind (trace_of b cpu)))
+
+abbrev pub kind_done : Bundle → Plan → (Act → Bool) → Play → ℕ → ℕ → ℕ
+kind_done b plan kind s zone cpu = length (steps_among b plan zone (of_kind kind (take (length (replies_so_far s cpu)) (trace_of b cpu))))
 
 -- those of all CPUs
+abbrev pub zone_kind : Bundle → Plan → (Act → Bool) → ℕ → ℕ
+zone_kind b plan kind zone = sum_below (kind_there b plan kind zone) b.cpus
+
+abbrev pub zone_kind_done : Bundle → Plan → (Act → Bool) → Play → ℕ → ℕ
+zone_kind_done b plan kind s zone = sum_below (kind_done b plan kind s zone) b.cpus
+
+-- those that may bring a new chunk
+abbrev pub zone_allocations : Bundle → Plan → ℕ → ℕ
+zone_allocations b plan zone = zone_kind b plan is_allocating zone
+
+abbrev pub zone_allocations_done : Bundle → Plan → Play → ℕ → ℕ
+zone_allocations_done b plan s zone = zone_kind_done b plan is_allocating s zone
+
+-- those that give a block away
 abbrev pub zone_gifts : Bundle → Plan → ℕ → ℕ
-zone_gifts b plan zone = sum_below (gifts_there b plan zone) b.cpus
+zone_gifts b plan zone = zone_kind b plan is_giving zone
 
 abbrev pub zone_gifts_done : Bundle → Plan → Play → ℕ → ℕ
-zone_gifts_done b plan s zone = sum_below (gifts_done b plan s zone) b.cpus
+zone_gifts_done b plan s zone = zone_kind_done b plan is_giving s zone

@@ -10,7 +10,7 @@ use Rattle.kz_model.specs.declared.record.Plan.{Plan}
 use Rattle.kz_model.specs.declared.supply.SupplyEntry.{SupplyEntry}
 use Rattle.kz_model.specs.Zone.{opening}
 use Rattle.kz_model.specs.Alone.{Course, course}
-use Rattle.kz_model.specs.Amounts.{sum_below, mapped_count, pages_held, granted_in, returned_in, stock_of, carried_of, lines_done, zone_lines, zone_lines_done, zone_gifts_done}
+use Rattle.kz_model.specs.Amounts.{sum_below, mapped_count, pages_held, granted_in, returned_in, stock_of, carried_of, lines_done, zone_lines, zone_lines_done, zone_allocations_done, zone_gifts_done}
 use Rattle.kz_model.specs.Journal.{params_of, addressed, trace_of, spell, log_at, answers_at}
 use Rattle.kz_model.specs.Late.{IsDelayed}
 use Rattle.kz_model.specs.Order.{Progress, started, late, order_step}
@@ -43,10 +43,11 @@ pub record IsZonePlayed (b : Bundle) (plan : Plan) (s : Play) (zone : ℕ) (z : 
   pub pages : (params_of b plan zone).pages * mapped_count z.state.shared.chunks + returned_in (log_at zone s.log) ≡ granted_in (log_at zone s.log)
   -- each chunk has its first page in the log
   pub bases : length (bases zone s.log) ≡ length z.state.shared.chunks
-  pub chunks : length z.state.shared.chunks ≤ zone_lines_done b plan s zone
+  -- only a line that allocates brings a chunk
+  pub chunks : length z.state.shared.chunks ≤ zone_allocations_done b plan s zone
   -- it has a new chunk only while all its chunks are mapped, so never more than the frames can fill
   pub framed : (params_of b plan zone).pages * length z.state.shared.chunks ≤ b.frames
-  pub entries : length (log_at zone s.log) + mapped_count z.state.shared.chunks ≤ 2 * zone_lines_done b plan s zone
+  pub entries : length (log_at zone s.log) + mapped_count z.state.shared.chunks ≤ 2 * zone_allocations_done b plan s zone
   pub gifts : length z.state.shared.transit ≤ zone_gifts_done b plan s zone
   -- each visit, and each step that is late, is for a line of its own
   pub visits : length z.visits + sum_below (slice_index z.late) b.cpus ≤ zone_lines_done b plan s zone

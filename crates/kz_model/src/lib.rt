@@ -16,7 +16,9 @@ mod text;
 mod type_lines;
 mod words;
 
-pub use bundle::{Act, Bundle, Field, Kind, NameRow, OrderLine, Seed, TraceStep, TypeDecl};
+pub use bundle::{
+    Act, Bundle, Field, Kind, LineKind, NameRow, OrderLine, Seed, TraceStep, TypeDecl,
+};
 pub use grammar::{Cause, Counted, Header, Mark, Place, Refusal};
 pub use laws::{
     addresses_are_sequestered, agreement_decides, classes_are_least, delayed_runs_answer_alike,

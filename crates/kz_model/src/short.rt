@@ -1,9 +1,9 @@
 //! The steps of a trace as they are kept. A write's bytes stand apart, so that no other step takes room for them.
 ghost use Rattle.std.specs.Prelude.{◌≡◌, ◌<◌, ◌^◌, ℕ, List, [], ◌∷◌, ◌++◌, length, map, All, OnOk, OnErr, IfOk, slice_index_or, vec_len, vec_capacity};
-ghost use Rattle.kz_model.specs.Amounts.{is_giving};
+ghost use Rattle.kz_model.specs.Amounts.{kind_of};
 ghost use Rattle.kz_model.specs.Traces.{act_meant, no_step, IsWithin, AreNumbered, renumbered_short, renumbered_kept, renumbered_step};
 
-use crate::{Act, Piece, TraceStep};
+use crate::{Act, LineKind, Piece, TraceStep};
 use std::alloc::{AllocError, Global};
 use std::marker::Model;
 
@@ -225,12 +225,18 @@ impl Trace {
         self.steps[at].round
     }
 
-    /// Whether the step at this place gives a block away.
-    pub fn gives(&self, at: usize) -> bool
+    /// Whether the step at this place is of this kind.
+    pub fn is_of(&self, at: usize, kind: LineKind) -> bool
         requires { at < length self.now }
-        ensures { result ≡ is_giving (slice_index_or self.now at no_step).act }
+        ensures { result ≡ kind_of kind (slice_index_or self.now at no_step).act }
     {
-        matches!(self.steps[at].act, ShortAct::Give { .. })
+        let act = self.steps[at].act;
+        match kind {
+            LineKind::Allocating => {
+                matches!(act, ShortAct::Alloc { .. } | ShortAct::AllocZero { .. })
+            }
+            LineKind::Giving => matches!(act, ShortAct::Give { .. }),
+        }
     }
 
     /// The steps with other numbers for their names and types.
