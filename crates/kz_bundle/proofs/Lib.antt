@@ -43,5 +43,5 @@ pub mod Printed
 pub mod Outlines
 pub mod Zoned
 pub mod Counting
-pub mod GiftLines
+pub mod KindLines
 pub mod Keys

@@ -1,5 +1,5 @@
 -- The lines of a planned bundle are addressed to its zones.
-use Rattle.std.proofs.Common.{◌≡◌, ℕ, ◌<◌, ◌≤◌, length, slice_index_or, [], Some, None, sym, subst, arith}
+use Rattle.std.proofs.Common.{◌≡◌, ℕ, ◌<◌, length, slice_index_or, [], Some, None, sym, subst, arith}
 use Rattle.kz_model.specs.declared.bundle.Act.{Act}
 use Rattle.kz_model.specs.declared.bundle.Act.TheVariants as act
 use Rattle.kz_model.specs.declared.bundle.Bundle.{Bundle}

@@ -1,10 +1,11 @@
 -- The lines of CPUs on zones.
-use Rattle.std.specs.Prelude.{◌≡◌, ℕ, ◌+◌, ◌<◌, ◌==◌, nat_lt, if◌then◌else◌, List, [], length, map, take, slice_index, slice_index_or, slice_set}
+use Rattle.std.specs.Prelude.{◌≡◌, ℕ, ◌+◌, ◌<◌, ◌==◌, nat_lt, if◌then◌else◌, Bool, List, [], length, map, take, slice_index, slice_index_or, slice_set}
 use Rattle.std.specs.List.{range_with_len}
+use Rattle.kz_model.specs.declared.bundle.Act.{Act}
 use Rattle.kz_model.specs.declared.bundle.Bundle.{Bundle}
 use Rattle.kz_model.specs.declared.bundle.TraceStep.{TraceStep}
 use Rattle.kz_model.specs.declared.record.Plan.{Plan}
-use Rattle.kz_model.specs.Amounts.{sum_below, giving, gifts_there}
+use Rattle.kz_model.specs.Amounts.{sum_below, of_kind, kind_there}
 use Rattle.kz_model.specs.Journal.{trace_of, type_of_name, steps_among}
 
 -- the plan has a zone for each type and each name
@@ -30,10 +31,10 @@ pub record AreCounted (b : Bundle) (plan : Plan) (lines : ℕ → List TraceStep
   pub cpus : (zone : ℕ) → zone < length plan.zones → length (row_at table zone) ≡ b.cpus
   pub each : (zone cpu : ℕ) → zone < length plan.zones → cpu < b.cpus → slice_index (row_at table zone) cpu ≡ length (steps_among b plan zone (lines cpu))
 
--- how many lines addressed to a zone give a block away, of all lines of the CPUs before this one and so many of this one's
-abbrev pub gifts_before : Bundle → Plan → ℕ → ℕ → ℕ → ℕ
-gifts_before b plan cpu at zone = sum_below (gifts_there b plan zone) cpu + length (steps_among b plan zone (giving (take at (trace_of b cpu))))
+-- how many lines addressed to a zone are of a kind, of all lines of the CPUs before this one and so many of this one's
+abbrev pub kind_before : Bundle → Plan → (Act → Bool) → ℕ → ℕ → ℕ → ℕ
+kind_before b plan kind cpu at zone = sum_below (kind_there b plan kind zone) cpu + length (steps_among b plan zone (of_kind kind (take at (trace_of b cpu))))
 
 -- those of each zone
-abbrev pub gifts_by_zone : Bundle → Plan → ℕ → ℕ → List ℕ
-gifts_by_zone b plan cpu at = map (gifts_before b plan cpu at) (range_with_len 0 (length plan.zones))
+abbrev pub kind_by_zone : Bundle → Plan → (Act → Bool) → ℕ → ℕ → List ℕ
+kind_by_zone b plan kind cpu at = map (kind_before b plan kind cpu at) (range_with_len 0 (length plan.zones))

@@ -7,8 +7,8 @@ mod check;
 mod entry;
 mod fault;
 mod form;
-mod giving;
 mod index;
+mod kinds;
 mod label;
 mod laws;
 mod lines;
@@ -31,7 +31,7 @@ mod words;
 
 pub use addressing::addressed;
 pub use fault::ReadBundleFault;
-pub use giving::gifts;
+pub use kinds::count_kind;
 pub use kz_model::{Cause, Counted, Refusal};
 pub use laws::{a_bundle_has_one_text, spelling_is_reading, what_is_read_is_valid};
 pub use printing::print_bundle;

@@ -3,8 +3,10 @@ ghost use Rattle.kz_model.specs.Valid.{IsValid, layouts_in, plan_in};
 
 use crate::body::read_type;
 use crate::form::read_form;
-use crate::{ReadBundleFault, bundle_layouts, gifts, print_bundle, read_bundle, read_with_layouts};
-use kz_model::{Act, Bundle, Cause, Counted, Layout, Mark, OrderLine, Plan, Seed};
+use crate::{
+    ReadBundleFault, bundle_layouts, count_kind, print_bundle, read_bundle, read_with_layouts,
+};
+use kz_model::{Act, Bundle, Cause, Counted, Layout, LineKind, Mark, OrderLine, Plan, Seed};
 use kz_plan::plan;
 use std::alloc::{AllocError, Global};
 use std::test::Fail;
@@ -312,14 +314,16 @@ fn plan_of(alloc: Global, bundle: &Bundle, layouts: &[Layout]) -> Result<Plan, F
 }
 
 #[test]
-fn gifts_are_counted_by_zone(rt: HostRuntime) -> Result<(), Fail> {
+fn lines_of_a_kind_are_counted_by_zone(rt: HostRuntime) -> Result<(), Fail> {
     let body =
-        b"type cred { u32 uid; u32 gid }\ncpu 0\na x proc\na y cred\ng x 1\nf y\ncpu 1\nt x\nr x 0 8\ng x 0\nend\n";
+        b"type cred { u32 uid; u32 gid }\ncpu 0\na x proc\na y cred\nz x proc\ng x 1\nf y\ncpu 1\nt x\nr x 0 8\ng x 0\nend\n";
     let text = joined(rt.alloc(), &[TWO_CPUS, PROC, body])?;
     assert!(rt; text.len() < 1000);
     let (bundle, layouts) = read_with_layouts(rt.alloc(), &text)?;
     let plan = plan_of(rt.alloc(), &bundle, layouts.as_slice())?;
-    let gifts = gifts(rt.alloc(), &bundle, &plan)?;
+    let gifts = count_kind(rt.alloc(), &bundle, &plan, LineKind::Giving)?;
     assert_eq!(rt; gifts.as_slice(), [2, 0].as_slice());
+    let allocations = count_kind(rt.alloc(), &bundle, &plan, LineKind::Allocating)?;
+    assert_eq!(rt; allocations.as_slice(), [2, 1].as_slice());
     Ok(())
 }

@@ -1,4 +1,4 @@
-use Rattle.kz_bundle.proofs.Zoned.{are_zoned, act_within}
+use Rattle.kz_bundle.proofs.Zoned.{are_zoned}
 use Rattle.kz_bundle.proofs.addressing.addressed.Goals as goal
 
 pub addressed_act-requires-clause-zoned : goal.addressed_act-requires-clause-zoned

@@ -1,4 +1,4 @@
-use Rattle.std.proofs.Common.{◌≡◌, ℕ, ◌+◌, ◌<◌, length, ap, sym, subst, arith}
+use Rattle.std.proofs.Common.{ℕ, ◌+◌, ap, sym, subst, arith}
 use Rattle.kz_bundle.specs.Counted.{AreCounted, lines_before}
 use Rattle.kz_bundle.proofs.Counting.{counted-few, counted-more}
 use Rattle.kz_bundle.proofs.Zoned.{zone_there}

@@ -2,9 +2,10 @@ use Rattle.std.proofs.Common.{◌≡◌, List, [], length, slice_index_or, ap, �
 use Rattle.std.proofs.lemmas.List.{get_or_default}
 use Rattle.kz_model.specs.declared.bundle.TraceStep.{TraceStep}
 use Rattle.kz_model.specs.Journal.{trace_of}
-use Rattle.kz_bundle.specs.Counted.{gifts_by_zone}
-use Rattle.kz_bundle.proofs.GiftLines.{gifts-next}
-use Rattle.kz_bundle.proofs.giving.count_gifts.Goals as goal
+use Rattle.kz_model.specs.Amounts.{kind_of}
+use Rattle.kz_bundle.specs.Counted.{kind_by_zone}
+use Rattle.kz_bundle.proofs.KindLines.{kind-next}
+use Rattle.kz_bundle.proofs.kinds.count_lines.Goals as goal
 
 pub returns : goal.returns
 returns c =
@@ -16,4 +17,4 @@ returns c =
     c.index-as_slice-cpu.is ∙ ap (λ (traces : List (List TraceStep)). slice_index_or traces c.args.cpu found) c.as_slice.ensures
     ∙ get_or_default b.traces c.args.cpu found [] (omega (arith, c.requires.planned.is_valid.traces)) in
     let ended : l.at ≡ length (trace_of b c.args.cpu) = omega (arith, c.loop-at-test.false, l.auto.at-end, c.len-at-end.ensures, ap length same) in
-    l.invariant ∙ ap (gifts_by_zone b plan c.args.cpu) ended ∙ gifts-next b plan c.args.cpu
+    l.invariant ∙ ap (kind_by_zone b plan (kind_of c.args.kind) c.args.cpu) ended ∙ kind-next b plan (kind_of c.args.kind) c.args.cpu
