@@ -3,3 +3,4 @@ pub mod Stocks
 pub mod Logs
 pub mod Rooms
 pub mod Gets
+pub mod Grants

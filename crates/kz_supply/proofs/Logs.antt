@@ -107,7 +107,8 @@ kept_more left new unmade capacity now entry s before more room answer after few
       free = let P : Stock → Type 0 = λ l. l.free ≤ s.frames in subst P is (let Q : Stock → Type 0 = λ l. l.free ≤ s.frames in subst Q (sym after) (omega (arith, free_after left entry.ask entry.answer)));
       most = omega (arith, size);
       room = omega arith;
-      enough = λ some. omega (arith, size, kept, before.enough some);
+      made = before.made;
+      enough = λ whole some. omega (arith, size, kept, before.enough whole some);
     }
 
 -- exchanges are the pairs of their asks and their answers

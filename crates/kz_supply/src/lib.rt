@@ -1,6 +1,7 @@
 //! The supply of frames and pages, and what one zone sees of it.
 #![tactic(auto)]
 
+mod laws;
 mod pages;
 mod ready;
 mod solo;
@@ -9,6 +10,7 @@ mod supply;
 #[cfg(test)]
 mod tests;
 
+pub use laws::whole_supplies_can_answer;
 pub use pages::{Denied, Grant, Pages, Want};
 pub use ready::{ReadyBase, ReadyPages};
 pub use solo::{SoloBase, SoloPages};

@@ -1,8 +1,8 @@
 //! What the supply has left: free frames, and a cursor for each submap.
-ghost use Rattle.std.specs.Prelude.{◌≡◌, ◌+◌, ◌-◌, ◌*◌, ◌<◌, ◌≤◌, ◌++◌, length, take, All, IfOk, vec_capacity};
+ghost use Rattle.std.specs.Prelude.{◌≡◌, ◌+◌, ◌-◌, ◌<◌, ◌≤◌, ◌++◌, length, take, All, IfOk, vec_capacity};
 ghost use Rattle.kz_model.specs.declared.supply.Ask.TheVariants.{Chunk as AskChunk, Frames as AskFrames, Back};
 ghost use Rattle.kz_model.specs.declared.supply.Answer.TheVariants.{Taken};
-ghost use Rattle.kz_model.specs.Supply.{stocked, answer_of, stock_after};
+ghost use Rattle.kz_model.specs.Supply.{stocked, answer_of, stock_after, pages_left};
 ghost use Rattle.kz_frame.specs.Frames.{zero_frame, zero_frames};
 ghost use Rattle.kz_supply.specs.Exchange.{chunk_answer, frames_answer};
 ghost use Rattle.kz_supply.specs.Store.{IsEnough};
@@ -36,16 +36,16 @@ impl Model for Stock {
 }
 
 impl Stock {
-    /// So many free frames, and so many pages in each submap. No more frames are made than so many entries of a log can take, at most eight each.
+    /// So many free frames, of which so many are made, and so many pages in each submap.
     pub(crate) fn new(
         alloc: Global,
         frames: u32,
+        made: u32,
         pages: u32,
-        entries: u32,
     ) -> Result<Stock, AllocError>
-        ensures { IfOk result (λ stock. stock ≡ record { frames = frames; pages = pages; left = stocked frames; unmade = frames - 8 * entries }) }
+        requires { made ≤ frames }
+        ensures { IfOk result (λ stock. stock ≡ record { frames = frames; pages = pages; left = stocked frames; unmade = frames - made }) }
     {
-        let made = frames.min(entries.saturating_mul(8));
         let free = new_frames(alloc, made)?;
         Ok(Stock {
             free,
@@ -60,7 +60,7 @@ impl Stock {
     pub(crate) fn chunk(&mut self, submap: u32, pages: u32) -> Result<Grant, Denied>
         requires submap { submap < 5 }
         requires few { pages ≤ 8 }
-        requires enough { IsEnough pages self.old.unmade self.old.left }
+        requires enough { pages ≤ pages_left self.old.pages self.old.left submap → IsEnough pages self.old.unmade self.old.left }
         ensures answer { chunk_answer result ≡ answer_of self.old.pages self.old.left (AskChunk submap pages) }
         ensures left { self.new ≡ record self.old { left = stock_after self.old.left (AskChunk submap pages) (chunk_answer result) } }
         ensures zero { IfOk result (λ grant. grant.frames ≡ zero_frames pages) }

@@ -1,11 +1,11 @@
 //! The supply: free frames, and a cursor for each submap.
-ghost use Rattle.std.specs.Prelude.{◌≡◌, ◌<◌, ◌≤◌, [], length, IfOk};
+ghost use Rattle.std.specs.Prelude.{◌≡◌, ◌*◌, ◌<◌, ◌≤◌, [], length, min, IfOk};
 ghost use Rattle.kz_model.specs.declared.supply.Ask.TheVariants.{Chunk as AskChunk, Frames as AskFrames, Back};
 ghost use Rattle.kz_model.specs.declared.supply.Answer.TheVariants.{Taken};
-ghost use Rattle.kz_model.specs.Supply.{answer_of};
+ghost use Rattle.kz_model.specs.Supply.{answer_of, pages_left};
 ghost use Rattle.kz_frame.specs.Frames.{zero_frames};
 ghost use Rattle.kz_supply.specs.Exchange.{chunk_answer, frames_answer};
-ghost use Rattle.kz_supply.specs.Supply.{AreAnswered, stock_of, frames_out, with_entry};
+ghost use Rattle.kz_supply.specs.Supply.{AreAnswered, HasMade, stock_of, frames_out, with_entry};
 
 use crate::pages::{answer_to_chunk, answer_to_frames};
 use crate::stock::Stock;
@@ -26,24 +26,37 @@ pub struct Supply {
 }
 
 impl Model for Supply {
-    ghost use Rattle.std.specs.Prelude.{vec_capacity};
+    ghost use Rattle.std.specs.Prelude.{◌-◌, vec_capacity};
     ghost use Rattle.kz_supply.specs.Supply.{Supply as Seen, IsKept};
 
     ghost Value = { Seen };
 
-    ghost view = { λ s. record { frames = s.stock.frames; pages = s.stock.pages; room = s.room; log = s.log.items } };
+    ghost view = { λ s. record { frames = s.stock.frames; made = s.stock.frames - s.stock.unmade; pages = s.stock.pages; room = s.room; log = s.log.items } };
 
-    ghost invariant = { λ s. IsKept s.stock.left s.stock.unmade (vec_capacity s.log) (record { frames = s.stock.frames; pages = s.stock.pages; room = s.room; log = s.log.items }) };
+    ghost invariant = { λ s. IsKept s.stock.left s.stock.unmade (vec_capacity s.log) (record { frames = s.stock.frames; made = s.stock.frames - s.stock.unmade; pages = s.stock.pages; room = s.room; log = s.log.items }) };
 }
 
 impl Supply {
     /// A supply of so many free frames and so many pages in each submap, with room for so many entries in its log.
     ///
-    /// An entry takes at most eight frames, so memory is taken for at most eight frames an entry.
+    /// An entry takes at most eight frames, so memory is taken for at most eight frames an entry: they are enough for any asks.
     pub fn new(alloc: Global, frames: u32, pages: u32, log_room: u32) -> Result<Supply, AllocError>
-        ensures { IfOk result (λ supply. supply ≡ record { frames = frames; pages = pages; room = log_room; log = [] }) }
+        ensures { IfOk result (λ supply. supply ≡ record { frames = frames; made = min frames (8 * log_room); pages = pages; room = log_room; log = [] }) }
     {
-        let stock = Stock::new(alloc, frames, pages, log_room)?;
+        Supply::with_made(alloc, frames, log_room.saturating_mul(8), pages, log_room)
+    }
+
+    /// A supply like that of [`Supply::new`], for a caller who knows how many of its frames can be out at once: memory is taken for so many, and the others are only counted.
+    pub fn with_made(
+        alloc: Global,
+        frames: u32,
+        made: u32,
+        pages: u32,
+        log_room: u32,
+    ) -> Result<Supply, AllocError>
+        ensures { IfOk result (λ supply. supply ≡ record { frames = frames; made = min frames made; pages = pages; room = log_room; log = [] }) }
+    {
+        let stock = Stock::new(alloc, frames, frames.min(made), pages)?;
         let log = Vec::with_capacity(alloc, log_room as usize)?;
         Ok(Supply {
             stock,
@@ -58,6 +71,7 @@ impl Supply {
         requires submap { submap < 5 }
         requires some { 1 ≤ pages }
         requires few { pages ≤ 8 }
+        requires made { pages ≤ pages_left self.old.pages (stock_of self.old) submap → HasMade pages self.old }
         ensures answer { chunk_answer result ≡ answer_of self.old.pages (stock_of self.old) (AskChunk submap pages) }
         ensures logged { self.new ≡ with_entry (record { zone = zone; ask = AskChunk submap pages; answer = chunk_answer result }) self.old }
         ensures answers { AreAnswered self.new }
@@ -75,6 +89,7 @@ impl Supply {
         requires room { length self.old.log < self.old.room }
         requires some { 1 ≤ pages }
         requires few { pages ≤ 8 }
+        requires made { HasMade pages self.old }
         ensures answer { frames_answer result ≡ answer_of self.old.pages (stock_of self.old) (AskFrames pages) }
         ensures logged { self.new ≡ with_entry (record { zone = zone; ask = AskFrames pages; answer = frames_answer result }) self.old }
         ensures answers { AreAnswered self.new }

@@ -2,7 +2,7 @@ ghost use Rattle.std.specs.Prelude.{◌≡◌, ◌<◌, ◌≤◌, ◌++◌, [],
 ghost use Rattle.kz_model.specs.declared.bundle.Seed.TheVariants.{Plain};
 ghost use Rattle.kz_frame.specs.Frames.{zero_frames};
 ghost use Rattle.kz_supply.specs.Exchange.{ask_for_chunk, chunk_answer};
-ghost use Rattle.kz_supply.specs.Supply.{with_exchanges};
+ghost use Rattle.kz_supply.specs.Supply.{IsMadeWhole, with_exchanges};
 
 use crate::{Denied, Grant, Pages, ReadyPages, SoloPages, Supply};
 use kz_frame::{read_over, write_over};
@@ -50,6 +50,7 @@ fn step(supply: &mut Supply, params: &ZoneParams) -> Result<Grant, Denied>
     requires some { 1 ≤ params.now.pages }
     requires few { params.now.pages ≤ 8 }
     requires room { length supply.old.log < supply.old.room }
+    requires made { IsMadeWhole supply.old }
     ensures zero { IfOk result (λ grant. grant.frames ≡ zero_frames params.now.pages) }
     ensures logged { supply.new ≡ with_exchanges params.now.zone ((ask_for_chunk params.now, chunk_answer result) ∷ []) supply.old }
 {
@@ -107,6 +108,18 @@ fn few_entries_of_many_frames(rt: HostRuntime) -> Result<(), Fail> {
         answer,
     });
     assert_eq!(rt; supply.log(), entries.as_slice());
+    Ok(())
+}
+
+#[test]
+fn fewer_frames_are_made_than_there_are(rt: HostRuntime) -> Result<(), Fail> {
+    let mut supply = Supply::with_made(rt.alloc(), 8192, 2, 16, 8)?;
+    let Ok(grant) = supply.chunk(0, 1, 2) else {
+        return Err(Fail::from("no chunk"));
+    };
+    supply.back(0, grant.frames);
+    let given = supply.frames(0, 2).map(|frames| frames.len());
+    assert_eq!(rt; given, Ok(2));
     Ok(())
 }
 
