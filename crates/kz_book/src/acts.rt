@@ -6,7 +6,7 @@ ghost use Rattle.kz_model.specs.Rules.{newest, below_newest, ready, spilled, blo
 ghost use Rattle.kz_model.specs.Whole.{AreAway};
 ghost use Rattle.kz_model.specs.Zone.{Shared, chunk_at};
 ghost use Rattle.kz_supply.specs.Exchange.{denied_reply};
-ghost use Rattle.kz_zone.specs.Growth.{CanAnswer};
+ghost use Rattle.kz_zone.specs.Growth.{CanAnswer, HasPlace};
 ghost use Rattle.kz_zone.specs.Zone.{Shows, IsSame, IsSettled, IsBlock, shared_of, want_of};
 ghost use Rattle.kz_book.specs.Acts.{IsOrderly, Acts, Fills, scene};
 ghost use Rattle.kz_book.specs.Visits.{want_at, gives, trims, ReadsFew};
@@ -144,7 +144,7 @@ fn fill<P: Pages>(zone: &mut Zone, pair: &mut Pair, pages: &mut P) -> Result<(),
     requires same_magazine { pair.old.magazine ≡ zone.old.params.magazine }
     requires same_zone { P.params pages.old ≡ zone.old.params }
     requires answers { CanAnswer (if length pair.old.blocks == 0 then want_of zone.old else Want.Nothing) (P.can_chunk pages.old) (P.can_frames pages.old) }
-    requires few { 0 < P.grants pages.old → length zone.old.chunks < zone.old.most_chunks }
+    requires few { HasPlace (if length pair.old.blocks == 0 then want_of zone.old else Want.Nothing) (P.grants pages.old) (length zone.old.chunks) zone.old.most_chunks }
     ensures shows { OnOk result ((s : Shared) → Shows zone.old s → Shows zone.new (ready zone.old.params s pair.old.blocks).1) }
     ensures stack { OnOk result ((s : Shared) → Shows zone.old s → pair.new ≡ record pair.old { blocks = (ready zone.old.params s pair.old.blocks).0 }) }
     ensures some { OnOk result (0 < length pair.new.blocks) }
@@ -172,7 +172,7 @@ fn allocate<P: Pages>(
     requires at { (cpu name : ℕ) × IsOrderly (scene zone.old pair.old.blocks bound.old) cpu (AllocStep name) }
     requires same_zone { P.params pages.old ≡ zone.old.params }
     requires answers { CanAnswer (want_at zone.old pair.old.blocks (AllocStep 0)) (P.can_chunk pages.old) (P.can_frames pages.old) }
-    requires few { 0 < P.grants pages.old → length zone.old.chunks < zone.old.most_chunks }
+    requires few { HasPlace (want_at zone.old pair.old.blocks (AllocStep 0)) (P.grants pages.old) (length zone.old.chunks) zone.old.most_chunks }
     ensures acts { (cpu name : ℕ) → Acts (scene zone.old pair.old.blocks bound.old) (scene zone.new pair.new.blocks bound.new) cpu (AllocStep name) result (P.exchanges pages.old) (P.exchanges pages.new) }
     ensures same { IsSame zone.old zone.new }
     ensures magazine { pair.new.magazine ≡ pair.old.magazine }
@@ -199,7 +199,7 @@ fn allocate_zero<P: Pages>(
     requires at { (cpu name : ℕ) × IsOrderly (scene zone.old pair.old.blocks bound.old) cpu (AllocZeroStep name) }
     requires same_zone { P.params pages.old ≡ zone.old.params }
     requires answers { CanAnswer (want_at zone.old pair.old.blocks (AllocZeroStep 0)) (P.can_chunk pages.old) (P.can_frames pages.old) }
-    requires few { 0 < P.grants pages.old → length zone.old.chunks < zone.old.most_chunks }
+    requires few { HasPlace (want_at zone.old pair.old.blocks (AllocZeroStep 0)) (P.grants pages.old) (length zone.old.chunks) zone.old.most_chunks }
     ensures acts { (cpu name : ℕ) → Acts (scene zone.old pair.old.blocks bound.old) (scene zone.new pair.new.blocks bound.new) cpu (AllocZeroStep name) result (P.exchanges pages.old) (P.exchanges pages.new) }
     ensures same { IsSame zone.old zone.new }
     ensures magazine { pair.new.magazine ≡ pair.old.magazine }
@@ -232,7 +232,7 @@ pub fn act<P: Pages>(
     requires reads { ReadsFew step.now }
     requires same_zone { P.params pages.old ≡ zone.old.params }
     requires answers { CanAnswer (want_at zone.old pair.old.blocks step.now) (P.can_chunk pages.old) (P.can_frames pages.old) }
-    requires few { 0 < P.grants pages.old → length zone.old.chunks < zone.old.most_chunks }
+    requires few { HasPlace (want_at zone.old pair.old.blocks step.now) (P.grants pages.old) (length zone.old.chunks) zone.old.most_chunks }
     requires backs { trims step.now ≡ true → count_by (λ chunk. chunk.mapped) zone.old.chunks ≤ P.backs pages.old }
     ensures acts { Acts (scene zone.old pair.old.blocks bound.old) (scene zone.new pair.new.blocks bound.new) cpu step.now result (P.exchanges pages.old) (P.exchanges pages.new) }
     ensures same { IsSame zone.old zone.new }

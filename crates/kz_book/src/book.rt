@@ -5,7 +5,7 @@ ghost use Rattle.kz_model.specs.Zone.{own_of, chunk_at};
 ghost use Rattle.kz_model.specs.Late.{NeedNone};
 ghost use Rattle.kz_model.specs.Report.{page_of};
 ghost use Rattle.kz_supply.specs.Exchange.{Exchange, answer_of};
-ghost use Rattle.kz_zone.specs.Growth.{CanAnswer};
+ghost use Rattle.kz_zone.specs.Growth.{CanAnswer, HasPlace};
 ghost use Rattle.kz_zone.specs.Room.{IsFit};
 ghost use Rattle.kz_zone.specs.Zone.{IsKept};
 ghost use Rattle.kz_book.specs.Acts.{Acts, scene};
@@ -98,7 +98,7 @@ impl Book {
         requires reads { ReadsFew step.now }
         requires same_zone { P.params pages.old ≡ params_of self.old }
         requires answers { CanAnswer (want_at self.old.zone pair.old.blocks step.now) (P.can_chunk pages.old) (P.can_frames pages.old) }
-        requires few { 0 < P.grants pages.old → length self.old.zone.chunks < self.old.zone.most_chunks }
+        requires few { HasPlace (want_at self.old.zone pair.old.blocks step.now) (P.grants pages.old) (length self.old.zone.chunks) self.old.zone.most_chunks }
         requires backs { trims step.now ≡ true → count_by (λ chunk. chunk.mapped) self.old.zone.chunks ≤ P.backs pages.old }
         ensures visits { self.new.visits ≡ self.old.visits ++ visit_of round cpu recent.now ∷ [] }
         ensures room { self.new.room ≡ self.old.room }

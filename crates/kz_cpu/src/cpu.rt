@@ -6,7 +6,7 @@ ghost use Rattle.kz_model.specs.Local.{local_answer};
 ghost use Rattle.kz_model.specs.Report.{page_of};
 ghost use Rattle.kz_model.specs.Rules.{needs_visit, name_of as step_name};
 ghost use Rattle.kz_supply.specs.Exchange.{Exchange, answer_of};
-ghost use Rattle.kz_zone.specs.Growth.{CanAnswer};
+ghost use Rattle.kz_zone.specs.Growth.{CanAnswer, HasPlace};
 ghost use Rattle.kz_zone.specs.Room.{IsFit};
 ghost use Rattle.kz_book.specs.Book.{Journal, Keeps, HasRoom, params_of};
 ghost use Rattle.kz_book.specs.Visits.{Extends, Settles, has_name, own_now, visit_of, settled_of, want_at, gives, trims, ReadsFew};
@@ -157,7 +157,7 @@ impl Cpu {
         requires reads { ReadsFew step.now }
         requires same_zone { P.params pages.old ≡ params_of book.old }
         requires answers { CanAnswer (want_at book.old.zone (cache_at self.old zone).pair.blocks step.now) (P.can_chunk pages.old) (P.can_frames pages.old) }
-        requires few { 0 < P.grants pages.old → length book.old.zone.chunks < book.old.zone.most_chunks }
+        requires few { HasPlace (want_at book.old.zone (cache_at self.old zone).pair.blocks step.now) (P.grants pages.old) (length book.old.zone.chunks) book.old.zone.most_chunks }
         requires backs { trims step.now ≡ true → count_by (λ chunk. chunk.mapped) book.old.zone.chunks ≤ P.backs pages.old }
 
         ensures visits { book.new.visits ≡ book.old.visits ++ visit_of round self.old.cpu (recent_at self.old zone) ∷ [] }

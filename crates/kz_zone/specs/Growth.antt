@@ -1,5 +1,5 @@
 -- What filling a stack asks of the supply, and what it makes of the answer.
-use Rattle.std.specs.Prelude.{◌≡◌, Bool, true, if◌then◌else◌, List, [], ◌∷◌, ◌++◌, map, Option, None, Some, Result, Ok, Err, IsTrue, replicate}
+use Rattle.std.specs.Prelude.{◌≡◌, ℕ, ◌<◌, Bool, true, if◌then◌else◌, List, [], ◌∷◌, ◌++◌, map, Option, None, Some, Result, Ok, Err, IsTrue, replicate}
 use Rattle.std.specs.List.{filter_map}
 use Rattle.kz_model.specs.declared.step.Reply.{Reply}
 use Rattle.kz_model.specs.declared.supply.Ask.{Ask}
@@ -21,6 +21,12 @@ abbrev pub CanAnswer : Want → Bool → Bool → Type 0
 CanAnswer want.Nothing can_chunk can_frames = Unit {0}
 CanAnswer want.Chunk can_chunk can_frames = IsTrue can_chunk
 CanAnswer want.Frames can_chunk can_frames = IsTrue can_frames
+
+-- where a chunk is wanted and may be granted, there is room for one more
+abbrev pub HasPlace : Want → ℕ → ℕ → ℕ → Type 0
+HasPlace want.Nothing grants chunks most = Unit {0}
+HasPlace want.Chunk grants chunks most = 0 < grants → chunks < most
+HasPlace want.Frames grants chunks most = Unit {0}
 
 -- the one ask of a zone that has to grow
 abbrev pub growth_asks : ZoneParams → Shared → List Ask

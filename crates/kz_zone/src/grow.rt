@@ -12,7 +12,7 @@ pub fn ready<P: Pages>(chunks: &mut Chunks, pages: &mut P) -> Result<(), Denied>
     requires same_zone { P.params pages.old ≡ chunks.old.params }
     requires chunk { has_idle (with_chunks chunks.old.chunks) ≡ false → unmapped_place chunks.old.chunks ≡ None → IsTrue (P.can_chunk pages.old) }
     requires frames { has_idle (with_chunks chunks.old.chunks) ≡ false → IsSome (unmapped_place chunks.old.chunks) → IsTrue (P.can_frames pages.old) }
-    requires few { 0 < P.grants pages.old → length chunks.old.chunks < chunks.old.most }
+    requires few { has_idle (with_chunks chunks.old.chunks) ≡ false → unmapped_place chunks.old.chunks ≡ None → 0 < P.grants pages.old → length chunks.old.chunks < chunks.old.most }
     ensures ready { OnOk result (chunks.new.chunks ≡ readied_chunks chunks.old.params chunks.old.chunks) }
     ensures unchanged { OnErr result (chunks.new ≡ chunks.old) }
     ensures stays { Stays chunks.old chunks.new }
@@ -32,7 +32,7 @@ fn grow<P: Pages>(chunks: &mut Chunks, pages: &mut P) -> Result<(), Denied>
     requires same_zone { P.params pages.old ≡ chunks.old.params }
     requires chunk { unmapped_place chunks.old.chunks ≡ None → IsTrue (P.can_chunk pages.old) }
     requires frames { IsSome (unmapped_place chunks.old.chunks) → IsTrue (P.can_frames pages.old) }
-    requires few { 0 < P.grants pages.old → length chunks.old.chunks < chunks.old.most }
+    requires few { unmapped_place chunks.old.chunks ≡ None → 0 < P.grants pages.old → length chunks.old.chunks < chunks.old.most }
     ensures grown { OnOk result (chunks.new.chunks ≡ grown_chunks chunks.old.params chunks.old.chunks) }
     ensures unchanged { OnErr result (chunks.new ≡ chunks.old) }
     ensures stays { Stays chunks.old chunks.new }

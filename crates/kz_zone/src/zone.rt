@@ -7,7 +7,7 @@ ghost use Rattle.kz_model.specs.Zone.{Shared, Gift, chunk_at, nothing_own};
 ghost use Rattle.kz_model.specs.Rules.{ready, spilled, all_idle, trimmed, before_unmapping, count_whole, gift_place, gift_at, with_bytes, bytes_at};
 ghost use Rattle.kz_model.specs.Whole.{AreAway};
 ghost use Rattle.kz_zone.specs.Zone.{Shows, IsSame, IsSettled, IsBlock, IsKept, shared_of, place_of, want_of};
-ghost use Rattle.kz_zone.specs.Growth.{CanAnswer, Grows, trim_exchanges};
+ghost use Rattle.kz_zone.specs.Growth.{CanAnswer, HasPlace, Grows, trim_exchanges};
 ghost use Rattle.kz_zone.specs.Room.{IsFit};
 ghost use Rattle.std.specs.List.{count_by};
 
@@ -76,7 +76,7 @@ impl Zone {
         requires same_magazine { into.old.magazine ≡ self.old.params.magazine }
         requires same_zone { P.params pages.old ≡ self.old.params }
         requires answers { CanAnswer (want_of self.old) (P.can_chunk pages.old) (P.can_frames pages.old) }
-        requires few { 0 < P.grants pages.old → length self.old.chunks < self.old.most_chunks }
+        requires few { HasPlace (want_of self.old) (P.grants pages.old) (length self.old.chunks) self.old.most_chunks }
 
         // What the stack gets, and what is left.
         ensures shows { OnOk result ((s : Shared) → Shows self.old s → Shows self.new (ready self.old.params s []).1) }
