@@ -68,17 +68,17 @@ moves p pages stock (Back n) lt = record { size = refl; any = omega arith; mine 
 
 -- ---- a log
 
-same_heads : (a c : Answer) (xs ys : List Answer) → a ∷ xs ≡ c ∷ ys → (a ≡ c) × (xs ≡ ys)
+pub same_heads : (a c : Answer) (xs ys : List Answer) → a ∷ xs ≡ c ∷ ys → (a ≡ c) × (xs ≡ ys)
 same_heads a c xs ys e = (cc, cc)
 
-abbrev asks : List SupplyEntry → List Ask
+abbrev pub asks : List SupplyEntry → List Ask
 asks log = map (λ entry. entry.ask) log
 
-abbrev answers : List SupplyEntry → List Answer
+abbrev pub answers : List SupplyEntry → List Answer
 answers log = map (λ entry. entry.answer) log
 
 -- a zone's chunks so far, and one more entry in front
-chunks_first : (zone : ℕ) (entry : SupplyEntry) (log : List SupplyEntry) → length (bases zone (entry ∷ log)) ≡ (if entry.zone == zone then length (cons_option (page_of entry.answer) []) else 0) + length (bases zone log)
+pub chunks_first : (zone : ℕ) (entry : SupplyEntry) (log : List SupplyEntry) → length (bases zone (entry ∷ log)) ≡ (if entry.zone == zone then length (cons_option (page_of entry.answer) []) else 0) + length (bases zone log)
 chunks_first zone entry log =
     elim (entry.zone == zone) as (λ t. length (filter_map page_of (answers (if t then entry ∷ log_at zone log else log_at zone log))) ≡ (if t then length (cons_option (page_of entry.answer) []) else 0) + length (bases zone log)) [
       | true ↦ one_or_none (page_of entry.answer) (bases zone log)

@@ -1,6 +1,6 @@
 -- The rooms of a bundle's zones are fit.
-use Rattle.std.proofs.Common.{◌≡◌, ◌<◌, ◌+◌, ◌/◌, ℕ, min, sum, None, length, All, slice_index_or, ap, sym, subst, arith}
-use Rattle.std.proofs.Math.Nat.{div-le_self, min-le_left}
+use Rattle.std.proofs.Common.{◌≡◌, ◌<◌, ◌≤◌, ◌+◌, ◌*◌, ◌/◌, ◌^◌, ℕ, min, sum, None, length, All, slice_index_or, ap, sym, subst, arith}
+use Rattle.std.proofs.Math.Nat.{div-le_self, min-le_left, min-le_right, mul-le-mul_left, mul-div-le}
 use Rattle.std.proofs.lemmas.List.Elements.{All-get_or, All-from_get_or}
 use Rattle.std.proofs.lemmas.List.FromFn.{get_or-map-range_with_len, length-map-range_with_len}
 use Rattle.kz_model.specs.declared.bundle.Bundle.{Bundle}
@@ -14,10 +14,10 @@ use Rattle.kz_model.specs.Rooms.{lines_on, steps_on, room_of, rooms_of}
 use Rattle.kz_model.specs.Valid.{IsValid}
 use Rattle.kz_zone.specs.Room.{AreFit, IsFit}
 use Rattle.kz_machine.specs.Looks.{no_room}
-use Rattle.kz_machine.specs.Needs.{needed_of, needed_rooms}
+use Rattle.kz_machine.specs.Needs.{needed_of, needed_rooms, frames_in}
 use Rattle.kz_model.proofs.Sums.{sum_below-one}
-use Rattle.kz_machine.proofs.Lines.{all_lines, zone_steps}
-use Rattle.kz_model.specs.Amounts.{zone_lines}
+use Rattle.kz_machine.proofs.Lines.{all_lines, zone_steps, frames_are, sum_below-most}
+use Rattle.kz_model.specs.Amounts.{zone_lines, zone_allocations}
 
 -- a room for each zone
 pub before_long : (b : Bundle) (plan : Plan) → length (rooms_of b plan) ≡ length plan.zones
@@ -64,8 +64,8 @@ pub room_fit : (b : Bundle) (plan : Plan) (zone : ℕ) → IsValid b → IsFitPl
 room_fit b plan zone valid fit lt =
     let few = div-le_self b.pages (params_of b plan zone).pages in
     let rows = sum (steps_on b plan zone) in
-    let less = min-le_left (min (b.pages / (params_of b plan zone).pages) rows) (b.frames / (params_of b plan zone).pages + 1) in
-    let least = min-le_left (b.pages / (params_of b plan zone).pages) rows in
+    let less = min-le_left (min (b.pages / (params_of b plan zone).pages) (zone_allocations b plan zone)) (b.frames / (params_of b plan zone).pages + 1) in
+    let least = min-le_left (b.pages / (params_of b plan zone).pages) (zone_allocations b plan zone) in
     let pages = valid.pages in
     let all = all_lines b plan (length plan.zones) valid in
     let one = sum_below-one (zone_lines b plan) (length plan.zones) zone lt in
@@ -95,3 +95,21 @@ has_elements b plan fit =
   where
     no_row : ZoneRow
     no_row = record { bucket = None; submap = 0; shape = record { element = 0; count = 0; pages = 0 }; types = 0 }
+
+-- the frames of all chunks that are needed
+pub frames_few : (b : Bundle) (plan : Plan) → IsValid b → IsFitPlan b plan → frames_in (needed_rooms b plan) < 2 ^ 32
+frames_few b plan valid fit =
+    let n = length plan.zones in
+    let few = fit.few in
+    let frames = valid.frames in
+    let one : (zone : ℕ) → zone < n → (params_of b plan zone).pages * (needed_of b plan zone).chunks ≤ 8200 =
+    λ zone lt.
+    let pages = (params_of b plan zone).pages in
+    let most = (params_fit b plan zone valid fit lt).shape.most_pages in
+    let least = min-le_right (min (b.pages / pages) (zone_allocations b plan zone)) (b.frames / pages + 1) in
+    let full = mul-le-mul_left pages least in
+    let whole = mul-div-le b.frames pages in
+    let split : pages * (b.frames / pages + 1) ≡ pages * (b.frames / pages) + pages = omega arith in
+    omega arith in
+    let sums = sum_below-most (λ zone. (params_of b plan zone).pages * (needed_of b plan zone).chunks) n 8200 one in
+    omega (arith, frames_are b plan)

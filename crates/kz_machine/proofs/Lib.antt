@@ -5,6 +5,9 @@ pub mod Fit
 pub mod Limited
 pub mod Opens
 pub mod Cursors
+pub mod Spread
+pub mod Frames
+pub mod Answering
 pub mod Ready
 pub mod OwnAsks
 pub mod Elsewhere

@@ -10,13 +10,14 @@ use Rattle.kz_model.specs.declared.bundle.TraceStep.{TraceStep}
 use Rattle.kz_model.specs.declared.record.Plan.{Plan}
 use Rattle.kz_model.specs.declared.record.Room.{Room}
 use Rattle.kz_model.specs.declared.supply.SupplyEntry.{SupplyEntry}
-use Rattle.kz_model.specs.Amounts.{sum_below, lines_there, zone_lines}
-use Rattle.kz_model.specs.Journal.{addressed, trace_of, steps_among, log_at}
-use Rattle.kz_model.specs.Rooms.{steps_on, room_of, rooms_of}
+use Rattle.kz_model.specs.Amounts.{is_allocating, sum_below, lines_there, zone_lines, zone_allocations}
+use Rattle.kz_model.specs.Journal.{params_of, addressed, trace_of, steps_among, log_at}
+use Rattle.kz_model.specs.Rooms.{steps_on}
 use Rattle.kz_model.specs.Valid.{IsValid}
+use Rattle.kz_model.proofs.LineKinds.{kind_few}
 use Rattle.kz_model.proofs.Sums.{sum_below-same, sum_below-zero, sum_below-le, sum_below-one}
 use Rattle.kz_model.proofs.TraceRounds.{range_push}
-use Rattle.kz_machine.specs.Blank.{most_entries}
+use Rattle.kz_machine.specs.Needs.{needed_of, needed_rooms, allocations_of, most_entries, frames_in}
 
 -- ---- sums
 
@@ -110,17 +111,30 @@ trace_few b cpu valid lt =
 pub zone_steps : (b : Bundle) (plan : Plan) (zone : ℕ) → sum (steps_on b plan zone) ≡ zone_lines b plan zone
 zone_steps b plan zone = sum_range (lines_there b plan zone) b.cpus
 
-pub entries_are : (b : Bundle) (plan : Plan) → most_entries (rooms_of b plan) ≡ 2 * sum_below (zone_lines b plan) (length plan.zones)
-entries_are b plan =
+map_twice : {X Y Z : Type 0} (f : X → Y) (g : Y → Z) (xs : List X) → map g (map f xs) ≡ map (λ x. g (f x)) xs
+map_twice f g [] = refl
+map_twice f g (x ∷ xs) = ap (λ l. g (f x) ∷ l) (map_twice f g xs)
+
+pub entries_are : (b : Bundle) (plan : Plan) → most_entries (allocations_of b plan) ≡ 2 * sum_below (zone_allocations b plan) (length plan.zones)
+entries_are b plan = ap (λ m. 2 * m) (sum_range (zone_allocations b plan) (length plan.zones))
+
+pub allocations_few : (b : Bundle) (plan : Plan) (n : ℕ) → IsValid b → sum_below (zone_allocations b plan) n ≤ 1000000
+allocations_few b plan n valid = omega (arith, sum_below-le (zone_allocations b plan) (zone_lines b plan) n (λ zone lt. kind_few b plan is_allocating zone), all_lines b plan n valid)
+
+-- the frames of all chunks that the rooms have
+pub frames_are : (b : Bundle) (plan : Plan) → frames_in (needed_rooms b plan) ≡ sum_below (λ zone. (params_of b plan zone).pages * (needed_of b plan zone).chunks) (length plan.zones)
+frames_are b plan =
     let n = length plan.zones in
-    ap (λ m. 2 * m)
-    (ap sum (map_twice (room_of b plan) (λ (room : Room). room.transit) (range_with_len 0 n))
-    ∙ sum_range (λ zone. sum (steps_on b plan zone)) n
-    ∙ sum_below-same (λ zone. sum (steps_on b plan zone)) (zone_lines b plan) n (λ zone lt. zone_steps b plan zone))
-  where
-    map_twice : {X Y Z : Type 0} (f : X → Y) (g : Y → Z) (xs : List X) → map g (map f xs) ≡ map (λ x. g (f x)) xs
-    map_twice f g [] = refl
-    map_twice f g (x ∷ xs) = ap (λ l. g (f x) ∷ l) (map_twice f g xs)
+    ap sum (map_twice (needed_of b plan) (λ (room : Room). room.params.pages * room.chunks) (range_with_len 0 n))
+    ∙ sum_range (λ zone. (params_of b plan zone).pages * (needed_of b plan zone).chunks) n
+
+pub sum_below-most : (f : ℕ → ℕ) (n most : ℕ) → ((k : ℕ) → k < n → f k ≤ most) → sum_below f n ≤ n * most
+sum_below-most f zero most le = omega arith
+sum_below-most f (suc n) most le =
+    let rest = sum_below-most f n most (λ k lt. le k (omega arith)) in
+    let last = le n (omega arith) in
+    let product : suc n * most ≡ n * most + most = omega arith in
+    omega arith
 
 -- ---- sums with room
 

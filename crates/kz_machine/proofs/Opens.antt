@@ -1,5 +1,5 @@
 -- A machine that opens stands for the play that opens.
-use Rattle.std.proofs.Common.{◌≡◌, ◌<◌, ℕ, zero, suc, List, [], ◌∷◌, length, map, replicate, slice_index_or, Option, None, Some, refl, ap, sym, ◌∙◌, subst, arith}
+use Rattle.std.proofs.Common.{◌≡◌, ◌<◌, ℕ, zero, suc, List, [], ◌∷◌, length, map, min, replicate, slice_index_or, Option, None, Some, refl, ap, sym, ◌∙◌, subst, arith}
 use Rattle.std.specs.List.{range_with_len}
 use Rattle.std.proofs.lemmas.List.{get_or-map, length-map, length-replicate}
 use Rattle.std.proofs.lemmas.List.Elements.{All-nil}
@@ -19,7 +19,6 @@ use Rattle.kz_model.specs.Journal.{params_of, zone_of_name, trace_of}
 use Rattle.kz_model.specs.Late.{NeedNone, own_after, IsDelayed}
 use Rattle.kz_model.specs.Planned.{IsPlanned, IsFitPlan}
 use Rattle.kz_model.specs.Play.{ZonePlay, zone_opened, zone_play, no_play, play_opened}
-use Rattle.kz_model.specs.Rooms.{rooms_of}
 use Rattle.kz_model.specs.Zone.{Own, ZoneState, nothing_own, own_of, opening}
 use Rattle.kz_model.proofs.OrderRuns.{zeros}
 use Rattle.kz_book.specs.Book.{Book, Journal}
@@ -28,10 +27,10 @@ use Rattle.kz_cpu.specs.declared.binding.Binding.{Binding}
 use Rattle.kz_cpu.specs.Cpu.{Cpu, Cache, Has, IsTagged, no_cache, cache_at, recent_at, bound_in, opened_cache, opened_cpu}
 use Rattle.kz_cpu.specs.Caught.{IsCaughtUp}
 use Rattle.kz_model.specs.Replies.{ReplySheet}
-use Rattle.kz_machine.specs.Blank.{no_replies, most_entries, IsBlankFor}
+use Rattle.kz_machine.specs.Blank.{no_replies, IsBlankFor}
 use Rattle.kz_machine.specs.Looks.{no_cpu, no_room, cpu_at, book_at}
 use Rattle.kz_machine.specs.Machine.{Machine, replies_at}
-use Rattle.kz_machine.specs.Needs.{needed_of, needed_rooms}
+use Rattle.kz_machine.specs.Needs.{needed_of, needed_rooms, allocations_of, most_entries, frames_needed}
 use Rattle.kz_machine.specs.Opening.{IsOpened, AreOpened}
 use Rattle.kz_machine.specs.Stands.{IsCpuAt, IsZoneAt, IsAt}
 use Rattle.kz_machine.proofs.Fit.{room_here, rooms_long, steps_here}
@@ -158,7 +157,7 @@ module _ (b : Bundle) (plan : Plan) where
   none_said (trace ∷ traces) = ap (λ (l : List (List Reply)). [] ∷ l) (none_said traces)
 
   pub opens_at : (m : Machine) → IsPlanned b plan → IsFitPlan b plan → m.cpus ≡ all_opened → AreOpened (needed_rooms b plan) m.books → m.rooms ≡ needed_rooms b plan →
-      m.supply ≡ record { frames = b.frames; pages = b.pages; room = most_entries (rooms_of b plan); log = [] } →
+      m.supply ≡ record { frames = b.frames; made = min b.frames (frames_needed b.pages (needed_rooms b plan)); pages = b.pages; room = most_entries (allocations_of b plan); log = [] } →
       m.replies ≡ map (λ trace. record { room = length trace; items = [] }) b.traces → m.round ≡ 0 → IsBlankFor (needed_rooms b plan) b.cpus m.blank →
       IsAt b plan m (play_opened b plan)
   opens_at m planned fit cpus books rooms supply replies round blank =

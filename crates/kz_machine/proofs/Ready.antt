@@ -1,5 +1,5 @@
 -- A CPU whose next line it is may do it.
-use Rattle.std.proofs.Common.{◌≡◌, ◌<◌, ◌≤◌, ◌+◌, ◌-◌, ◌*◌, ◌/◌, ℕ, ◌==◌, true, false, if◌then◌else◌, List, [], ◌∷◌, ◌++◌, length, take, drop, slice_index, slice_index_or, None, Some, refl, ap, sym, ◌∙◌, subst, arith}
+use Rattle.std.proofs.Common.{◌≡◌, ◌<◌, ◌≤◌, ◌+◌, ◌-◌, ◌*◌, ◌/◌, ℕ, ◌==◌, Bool, true, false, if◌then◌else◌, List, [], ◌∷◌, ◌++◌, length, take, drop, slice_index_or, None, Some, refl, ap, sym, ◌∙◌, subst, arith}
 use Rattle.std.specs.List.{count_by}
 use Rattle.std.proofs.Math.Nat.{le-min}
 use Rattle.std.proofs.lemmas.Nat.{le-div}
@@ -15,34 +15,32 @@ use Rattle.kz_model.specs.declared.record.Room.{Room}
 use Rattle.kz_model.specs.declared.record.Visit.{Visit}
 use Rattle.kz_model.specs.declared.record.ZoneParams.{ZoneParams}
 use Rattle.kz_model.specs.declared.step.Step.{Step}
-use Rattle.kz_model.specs.Amounts.{mapped_count, pages_held, stock_of, carried_of, lines_there, lines_done, zone_lines, zone_lines_done, is_giving, zone_gifts, zone_gifts_done}
+use Rattle.kz_model.specs.Amounts.{mapped_count, pages_held, stock_of, carried_of, lines_there, lines_done, zone_lines, zone_lines_done, is_allocating, is_giving, zone_kind, zone_kind_done, zone_allocations, zone_allocations_done, zone_gifts, zone_gifts_done}
 use Rattle.kz_model.specs.Journal.{params_of, zone_of_name, addressed, trace_of, steps_among, log_at}
 use Rattle.kz_model.specs.Play.{ZonePlay, Play, zone_play, replies_so_far, line_to_play}
 use Rattle.kz_model.specs.PlayedAt.{IsZonePlayed}
-use Rattle.kz_model.specs.Report.{bases}
-use Rattle.kz_model.specs.Rooms.{rooms_of}
 use Rattle.kz_model.specs.Rules.{name_of}
-use Rattle.kz_model.specs.Supply.{stocked}
 use Rattle.kz_model.specs.Traces.{no_step}
 use Rattle.kz_model.specs.Valid.{IsActWithin, IsStepWithin, IsValid}
 use Rattle.kz_model.specs.Zone.{Chunk, Gift, Shared}
-use Rattle.kz_model.proofs.Giving.{gift_left}
+use Rattle.kz_model.proofs.LineKinds.{kind_left, kind_done_few}
 use Rattle.kz_model.proofs.PlayedReplies.{step_within}
 use Rattle.kz_model.proofs.TraceRounds.{steps_within}
-use Rattle.kz_supply.specs.Supply.{Supply, room_left, backs_left, grants_left, frames_out}
+use Rattle.kz_model.specs.Supply.{pages_left}
+use Rattle.kz_supply.specs.Supply.{stock_of as left_of}
+use Rattle.kz_supply.specs.Supply.{Supply, HasMade, room_left, backs_left, grants_left, frames_out}
 use Rattle.kz_book.specs.Book.{Book, carried_by}
 use Rattle.kz_book.specs.Visits.{has_name, gives, ReadsFew}
 use Rattle.kz_cpu.specs.Cpu.{Cpu, IsTagged, binding_at, recent_at}
-use Rattle.kz_machine.specs.Blank.{most_entries}
 use Rattle.kz_machine.specs.Looks.{cpu_at, book_at}
 use Rattle.kz_machine.specs.Machine.{Machine}
-use Rattle.kz_machine.specs.Needs.{needed_of}
+use Rattle.kz_machine.specs.Needs.{needed_of, allocations_of, most_entries}
 use Rattle.kz_machine.specs.Stands.{IsCpuAt, IsZoneAt, IsAt, IsTurn}
-use Rattle.kz_machine.specs.Steps.{side, IsReady}
-use Rattle.kz_machine.proofs.Cursors.{chunks_below, grants_and_chunks}
+use Rattle.kz_machine.specs.Steps.{side, IsReady, allocates}
+use Rattle.kz_machine.proofs.Frames.{supply_of, in_submap as submap_fits, unmapped_made, granted_made}
 use Rattle.kz_machine.proofs.Fit.{params_fit, steps_here}
 use Rattle.kz_model.proofs.Sums.{sum_below-one}
-use Rattle.kz_machine.proofs.Lines.{entries_are, zone_steps, sum_below-room, sum_below-twice, log_spread}
+use Rattle.kz_machine.proofs.Lines.{entries_are, sum_below-room, sum_below-twice, log_spread}
 
 -- ---- a line's step
 
@@ -71,6 +69,18 @@ reads_few b plan (act.Read name off len) is = is.1
 reads_few b plan (act.Write name off bytes) is = tt
 reads_few b plan (act.Flush of) is = tt
 reads_few b plan (act.Trim of) is = tt
+
+allocating_line : (b : Bundle) (plan : Plan) (line : Act) → allocates (addressed b plan line).1 ≡ true → is_allocating line ≡ true
+allocating_line b plan (act.Alloc name of) is = refl
+allocating_line b plan (act.AllocZero name of) is = refl
+allocating_line b plan (act.Free name None) is = absurd (cc)
+allocating_line b plan (act.Free name (Some of)) is = absurd (cc)
+allocating_line b plan (act.Give name to) is = absurd (cc)
+allocating_line b plan (act.Take name) is = absurd (cc)
+allocating_line b plan (act.Read name off len) is = absurd (cc)
+allocating_line b plan (act.Write name off bytes) is = absurd (cc)
+allocating_line b plan (act.Flush of) is = absurd (cc)
+allocating_line b plan (act.Trim of) is = absurd (cc)
 
 giving_line : (b : Bundle) (plan : Plan) (line : Act) → gives (addressed b plan line).1 ≡ true → is_giving line ≡ true
 giving_line b plan (act.Alloc name of) is = absurd (cc)
@@ -159,11 +169,15 @@ module _ (b : Bundle) (plan : Plan) (m : Machine) (s : Play) (cpu zone : ℕ) (s
       subst (λ zone. length (steps_among b plan zone (take n trace)) < length (steps_among b plan zone trace)) zone_is
       (subst (λ lines. length (steps_among b plan (addressed b plan line.act).0 (take n trace)) < length (steps_among b plan (addressed b plan line.act).0 lines)) all (step_within b plan (take n trace) (drop (n + 1) trace) line))
 
-  -- and a gift, where it gives a block away
+  -- and one of its kind
+  kind_here : (kind : Act → Bool) → kind (line_to_play b s cpu).act ≡ true → zone_kind_done b plan kind s zone < zone_kind b plan kind zone
+  kind_here kind is = subst (λ zone. zone_kind_done b plan kind s zone < zone_kind b plan kind zone) zone_is (kind_left b plan kind s cpu turn.turn is)
+
   gift_here : gives step ≡ true → zone_gifts_done b plan s zone < zone_gifts b plan zone
-  gift_here is =
-      subst (λ zone. zone_gifts_done b plan s zone < zone_gifts b plan zone) zone_is
-      (gift_left b plan s cpu turn.turn (giving_line b plan (line_to_play b s cpu).act (subst (λ (step : Step). gives step ≡ true) (sym step_is) is)))
+  gift_here is = kind_here is_giving (giving_line b plan (line_to_play b s cpu).act (subst (λ (step : Step). gives step ≡ true) (sym step_is) is))
+
+  allocation_here : allocates step ≡ true → zone_allocations_done b plan s zone < zone_allocations b plan zone
+  allocation_here is = kind_here is_allocating (allocating_line b plan (line_to_play b s cpu).act (subst (λ (step : Step). allocates step ≡ true) (sym step_is) is))
 
   carried_here : carried_by cpu book.visits + length (recent_at c zone) ≡ lines_done b plan s zone cpu
   carried_here =
@@ -184,45 +198,36 @@ module _ (b : Bundle) (plan : Plan) (m : Machine) (s : Play) (cpu zone : ℕ) (s
 
   -- the supply
 
-  few_entries : (other : ℕ) → other < length plan.zones → length (log_at other s.log) ≤ 2 * zone_lines b plan other
-  few_entries other lt = let is = turn.sound.each other lt in let entries = is.entries in let lines = is.lines in omega arith
+  few_entries : (other : ℕ) → other < length plan.zones → length (log_at other s.log) ≤ 2 * zone_allocations b plan other
+  few_entries other lt = let entries = (turn.sound.each other lt).entries in let done = kind_done_few b plan is_allocating s other in omega arith
 
-  entries_room : length s.log + (mapped_count z.state.shared.chunks + 2) ≤ most_entries (rooms_of b plan)
-  entries_room =
+  entries_room : (more : ℕ) → length (log_at zone s.log) + more ≤ 2 * zone_allocations b plan zone → length s.log + more ≤ most_entries (allocations_of b plan)
+  entries_room more fits =
       let n = length plan.zones in
       let spread = log_spread n s.log turn.sound.supplied.of_zones in
-      let entries = sound.entries in
-      let left = lines_left in
-      let sums = sum_below-room (λ zone. length (log_at zone s.log)) (λ zone. 2 * zone_lines b plan zone) n zone (mapped_count z.state.shared.chunks + 2) in_zones (omega arith) few_entries in
-      let twice = sum_below-twice (zone_lines b plan) n in
+      let sums = sum_below-room (λ zone. length (log_at zone s.log)) (λ zone. 2 * zone_allocations b plan zone) n zone more in_zones fits few_entries in
+      let twice = sum_below-twice (zone_allocations b plan) n in
       let all = entries_are b plan in
       omega arith
 
-  room_is : room_left m.supply ≡ most_entries (rooms_of b plan) - length s.log
+  -- a back of each mapped chunk has room
+  backs_room : length s.log + mapped_count z.state.shared.chunks ≤ most_entries (allocations_of b plan)
+  backs_room = entries_room (mapped_count z.state.shared.chunks) (let entries = sound.entries in let done = kind_done_few b plan is_allocating s zone in omega arith)
+
+  room_is : room_left m.supply ≡ most_entries (allocations_of b plan) - length s.log
   room_is = ap room_left at.supply
 
   abbrev q : Supply
-  q = record { frames = b.frames; pages = b.pages; room = most_entries (rooms_of b plan); log = s.log }
+  q = supply_of b plan s
 
   in_submap : grants_left p.submap p.pages q + length z.state.shared.chunks ≤ b.pages / p.pages
-  in_submap =
-      let fit = params_fit b plan zone valid at.fit in_zones in
-      let supplied = turn.sound.supplied in
-      let cursor = slice_index (stock_of b s.log).cursors p.submap in
-      let five = supplied.cursors in
-      let known = fit.submap in
-      let submap : p.submap < length (stock_of b s.log).cursors = omega arith in
-      let inside : cursor ≤ b.pages = All-get_or (λ cursor. cursor ≤ b.pages) (stock_of b s.log).cursors p.submap 0 submap supplied.within in
-      let below = chunks_below (params_of b plan) zone b.pages s.log (stocked b.frames) known at.own_asks supplied.answers in
-      subst (λ n. grants_left p.submap p.pages q + n ≤ b.pages / p.pages) sound.bases
-      (grants_and_chunks b.pages cursor p.pages (length (bases zone s.log)) fit.shape.some_pages below inside)
+  in_submap = submap_fits b plan s valid at.fit turn.sound at.own_asks zone in_zones
 
   -- a chunk that may still be granted is one of those that are needed
-  chunks_left : 0 < grants_left p.submap p.pages q → length z.state.shared.chunks < (needed_of b plan zone).chunks
-  chunks_left some =
+  chunks_left : allocates step ≡ true → 0 < grants_left p.submap p.pages q → length z.state.shared.chunks < (needed_of b plan zone).chunks
+  chunks_left is some =
       let pages = in_submap in
-      let all = zone_steps b plan zone in
-      let lines = lines_left in
+      let lines = allocation_here is in
       let done = sound.chunks in
       let framed = le-div (length z.state.shared.chunks) b.frames p.pages (params_fit b plan zone valid at.fit in_zones).shape.some_pages (omega (arith, sound.framed)) in
       le-min (le-min (omega arith) (omega arith)) (omega arith)
@@ -264,13 +269,24 @@ module _ (b : Bundle) (plan : Plan) (m : Machine) (s : Play) (cpu zone : ℕ) (s
         submap = fit.submap;
         some_pages = fit.shape.some_pages;
         few_pages = fit.shape.most_pages;
-        entries = let room = entries_room in let is = room_is in omega arith;
-        chunks = λ some.
-            let room = chunks_left (subst (λ (q : Supply). 0 < grants_left p.submap p.pages q) at.supply some) in
+        entries = λ is.
+            let entries = sound.entries in
+            let left = allocation_here is in
+            let room = entries_room 1 (omega arith) in
+            let log = room_is in omega arith;
+        chunks = λ is some.
+            let room = chunks_left is (subst (λ (q : Supply). 0 < grants_left p.submap p.pages q) at.supply some) in
             subst (λ (l : List Chunk). length l < book.zone.most_chunks) (sym chunks_are) (subst (λ n. length z.state.shared.chunks < n) (sym there.most_chunks) room);
+        framed = λ less.
+            subst (λ (q : Supply). HasMade p.pages q) (sym at.supply)
+            (unmapped_made b plan s valid at.fit turn.sound at.own_asks zone in_zones (subst (λ (l : List Chunk). mapped_count l < length l) chunks_are less));
+        placed = λ is left.
+            let there = subst (λ (q : Supply). p.pages ≤ pages_left q.pages (left_of q) p.submap) at.supply left in
+            let some : 0 < grants_left p.submap p.pages q = le-div 1 (pages_left b.pages (stock_of b s.log) p.submap) p.pages fit.shape.some_pages (omega arith) in
+            subst (λ (q : Supply). HasMade p.pages q) (sym at.supply) (granted_made b plan s valid at.fit turn.sound at.own_asks zone in_zones (chunks_left is some) there);
         backs = λ trims.
             let out = le-div (mapped_count z.state.shared.chunks) (frames_out q) p.pages fit.shape.some_pages (omega (arith, frames_left)) in
-            let room = entries_room in
+            let room = backs_room in
             let enough : mapped_count z.state.shared.chunks ≤ backs_left p.pages q = omega arith in
             subst (λ (q : Supply). count_by (λ (chunk : Chunk). chunk.mapped) book.zone.chunks ≤ backs_left p.pages q) (sym at.supply)
             (subst (λ (l : List Chunk). count_by (λ (chunk : Chunk). chunk.mapped) l ≤ backs_left p.pages q) (sym chunks_are) (subst (λ n. n ≤ backs_left p.pages q) (mapped_same z.state.shared.chunks) enough));

@@ -1,5 +1,5 @@
 -- After a CPU's next line the machine stands for the play with that line.
-use Rattle.std.proofs.Common.{◌≡◌, ◌≢◌, ◌<◌, ◌≤◌, ◌+◌, ℕ, Bool, true, false, if◌then◌else◌, List, [], ◌∷◌, ◌++◌, length, map, slice_index, slice_index_or, slice_set, refl, ap, sym, ◌∙◌, subst, arith, length-append}
+use Rattle.std.proofs.Common.{◌≡◌, ◌≢◌, ◌<◌, ◌≤◌, ◌+◌, ℕ, Bool, true, false, if◌then◌else◌, List, [], ◌∷◌, ◌++◌, length, min, map, slice_index, slice_index_or, slice_set, refl, ap, sym, ◌∙◌, subst, arith, length-append}
 use Rattle.std.proofs.lemmas.List.{append-nil, get_or-set_same, get_or-set_other, get_or-map, length-map, length-set, map-set, set-set}
 use Rattle.std.proofs.lemmas.List.Elements.{All-append}
 use Rattle.kz_model.specs.declared.bundle.Bundle.{Bundle}
@@ -18,7 +18,6 @@ use Rattle.kz_model.specs.Late.{IsDelayed}
 use Rattle.kz_model.specs.Local.{local_answer, with_own, as_effect}
 use Rattle.kz_model.specs.Order.{answered}
 use Rattle.kz_model.specs.Play.{ZonePlay, Play, no_play, zone_play, replies_so_far, zone_after, asked, effect_there, played}
-use Rattle.kz_model.specs.Rooms.{rooms_of}
 use Rattle.kz_model.specs.Rules.{Effect, Part, needs_visit, asks_of, effect_of}
 use Rattle.kz_model.specs.Zone.{Shared, Own, ZoneState, own_of}
 use Rattle.kz_model.proofs.Delays.{no_asks, effect_is_local}
@@ -32,7 +31,8 @@ use Rattle.kz_book.specs.Visits.{own_now, visit_of}
 use Rattle.kz_cpu.specs.Cpu.{Cpu, recent_at}
 use Rattle.kz_cpu.specs.Caught.{IsCaughtUp}
 use Rattle.kz_model.specs.Replies.{ReplySheet}
-use Rattle.kz_machine.specs.Blank.{no_replies, most_entries}
+use Rattle.kz_machine.specs.Blank.{no_replies}
+use Rattle.kz_machine.specs.Needs.{needed_rooms, allocations_of, most_entries, frames_needed}
 use Rattle.kz_machine.specs.Looks.{no_cpu, no_book, cpu_at, book_at}
 use Rattle.kz_machine.specs.Machine.{Machine, replies_at}
 use Rattle.kz_machine.specs.Stands.{IsCpuAt, IsZoneAt, IsAt, IsTurn}
@@ -316,7 +316,7 @@ module _ (b : Bundle) (plan : Plan) (m : Machine) (s : Play) (cpu zone : ℕ) (s
         places = places_now;
         supply = does.supply
             ∙ ap (λ (s : Supply). with_exchanges zone exchanges s) at.supply
-            ∙ ap (λ (log : List SupplyEntry). let s : Supply = record { frames = b.frames; pages = b.pages; room = most_entries (rooms_of b plan); log = log } in s) (sym log_is);
+            ∙ ap (λ (log : List SupplyEntry). let s : Supply = record { frames = b.frames; made = min b.frames (frames_needed b.pages (needed_rooms b plan)); pages = b.pages; room = most_entries (allocations_of b plan); log = log } in s) (sym log_is);
         own_asks = All-append (λ (entry : SupplyEntry). IsForZone (params_of b plan entry.zone) entry.ask) s.log (asked b plan s cpu zone step) at.own_asks (step_entries_own (params_of b plan) zone z.state.shared cpu own step (new_answers b s.log asks));
         rooms = at.rooms;
         cpus_long = length-set m.cpus cpu d ∙ at.cpus_long;

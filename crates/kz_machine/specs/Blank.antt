@@ -1,5 +1,5 @@
 -- Room for the record of a run, as contracts see it.
-use Rattle.std.specs.Prelude.{ℕ, ◌≡◌, ◌*◌, ◌<◌, ◌≤◌, List, [], length, map, sum, slice_index_or}
+use Rattle.std.specs.Prelude.{ℕ, ◌≡◌, ◌<◌, ◌≤◌, List, [], length, slice_index_or}
 use Rattle.kz_model.specs.declared.record.Room.{Room}
 use Rattle.kz_model.specs.Replies.{ReplySheet}
 use Rattle.kz_book.specs.Book.{Book}
@@ -24,10 +24,6 @@ pub record Blank : Type 0 where
   pub visits : ℕ
   pub mapped : ℕ
   pub sheets : List Sheet
-
--- how many entries a log may have: two for each line
-abbrev pub most_entries : List Room → ℕ
-most_entries rooms = 2 * sum (map (λ room. room.transit) rooms)
 
 -- there is room for the record of a run of so many CPUs, whose zones have these rooms
 pub record IsBlankFor (rooms : List Room) (cpus : ℕ) (blank : Blank) : Type 0 where

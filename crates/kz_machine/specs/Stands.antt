@@ -1,5 +1,5 @@
 -- What a machine stands for in the run of a bundle's order.
-use Rattle.std.specs.Prelude.{◌≡◌, ℕ, ◌<◌, ◌≤◌, List, length, map, slice_index}
+use Rattle.std.specs.Prelude.{◌≡◌, ℕ, ◌<◌, ◌≤◌, List, length, map, min, slice_index}
 use Rattle.std.specs.List.{All}
 use Rattle.kz_model.specs.declared.bundle.Bundle.{Bundle}
 use Rattle.kz_model.specs.declared.record.Plan.{Plan}
@@ -11,14 +11,14 @@ use Rattle.kz_model.specs.Late.{IsDelayed}
 use Rattle.kz_model.specs.Planned.{IsPlanned, IsFitPlan}
 use Rattle.kz_model.specs.Play.{ZonePlay, Play, zone_play, line_to_play}
 use Rattle.kz_model.specs.PlayedAt.{IsPlaySound, HasTurn}
-use Rattle.kz_model.specs.Rooms.{lines_on, rooms_of}
+use Rattle.kz_model.specs.Rooms.{lines_on}
 use Rattle.kz_book.specs.Book.{Book, Journal, Keeps}
 use Rattle.kz_cpu.specs.Cpu.{Cpu, IsTagged, cache_at, recent_at, binding_at}
 use Rattle.kz_cpu.specs.Caught.{IsCaughtUp}
-use Rattle.kz_machine.specs.Blank.{most_entries, IsBlankFor}
+use Rattle.kz_machine.specs.Blank.{IsBlankFor}
 use Rattle.kz_machine.specs.Looks.{cpu_at, book_at}
 use Rattle.kz_machine.specs.Machine.{Machine, replies_at}
-use Rattle.kz_machine.specs.Needs.{needed_of, needed_rooms}
+use Rattle.kz_machine.specs.Needs.{needed_of, needed_rooms, allocations_of, most_entries, frames_needed}
 
 -- A CPU has what it needs for each zone and each name; a name that is bound was bound on its own zone.
 pub record IsCpuAt (b : Bundle) (plan : Plan) (cpu : ℕ) (c : Cpu) : Type 0 where
@@ -50,7 +50,7 @@ pub record IsAt (b : Bundle) (plan : Plan) (m : Machine) (s : Play) : Type 0 whe
   pub round : m.round ≡ s.round
   pub replies : map (λ r. r.items) m.replies ≡ s.replies
   pub places : (cpu : ℕ) → cpu < b.cpus → length (trace_of b cpu) ≤ (replies_at m.replies cpu).room
-  pub supply : m.supply ≡ record { frames = b.frames; pages = b.pages; room = most_entries (rooms_of b plan); log = s.log }
+  pub supply : m.supply ≡ record { frames = b.frames; made = min b.frames (frames_needed b.pages (needed_rooms b plan)); pages = b.pages; room = most_entries (allocations_of b plan); log = s.log }
   pub own_asks : All (λ entry. IsForZone (params_of b plan entry.zone) entry.ask) s.log
   pub rooms : m.rooms ≡ needed_rooms b plan
   pub cpus_long : length m.cpus ≡ b.cpus

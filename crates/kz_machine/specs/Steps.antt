@@ -1,15 +1,18 @@
 -- A step of a CPU on a zone, with the zone's book and the supply.
-use Rattle.std.specs.Prelude.{◌≡◌, ℕ, ◌+◌, ◌<◌, ◌≤◌, Bool, true, if◌then◌else◌, List, [], ◌∷◌, ◌++◌, length, map, slice_set}
+use Rattle.std.specs.Prelude.{◌≡◌, ℕ, ◌+◌, ◌<◌, ◌≤◌, Bool, true, false, if◌then◌else◌, List, [], ◌∷◌, ◌++◌, length, map, slice_set}
 use Rattle.std.specs.List.{count_by}
 use Rattle.kz_model.specs.declared.bundle.Bundle.{Bundle}
 use Rattle.kz_model.specs.declared.record.ZoneParams.{ZoneParams}
 use Rattle.kz_model.specs.declared.step.Step.{Step}
+use Rattle.kz_model.specs.declared.step.Step.TheVariants.{Alloc, AllocZero}
 use Rattle.kz_model.specs.declared.step.Reply.{Reply}
 use Rattle.kz_model.specs.Order.{answered}
 use Rattle.kz_model.specs.Rules.{Effect, needs_visit, asks_of}
 use Rattle.kz_model.specs.Zone.{Own, ZoneState}
 use Rattle.kz_supply.specs.Exchange.{Exchange, ask_of, answer_of, entries_of}
-use Rattle.kz_supply.specs.Supply.{Supply, room_left, backs_left, grants_left, with_exchanges}
+use Rattle.kz_model.specs.Amounts.{mapped_count}
+use Rattle.kz_model.specs.Supply.{pages_left}
+use Rattle.kz_supply.specs.Supply.{Supply, HasMade, stock_of, room_left, backs_left, grants_left, with_exchanges}
 use Rattle.kz_book.specs.Book.{Book, Journal, Keeps, HasRoom, params_of}
 use Rattle.kz_book.specs.Visits.{own_now, effect_in, visit_of, gives, trims, ReadsFew}
 use Rattle.kz_cpu.specs.Cpu.{Cpu, IsOnZone, IsElsewhere, cache_at, recent_at}
@@ -23,6 +26,12 @@ pub record Side : Type 0 where
 
 abbrev pub side : Cpu → Book → Supply → Side
 side cpu book supply = record { cpu = cpu; book = book; supply = supply }
+
+-- a step that may ask the supply
+abbrev pub allocates : Step → Bool
+allocates (Alloc name) = true
+allocates (AllocZero name) = true
+allocates step = false
 
 -- The step may be done, whether it needs a visit or not: the CPU has caught up with the zone's history, and there is room for all that a visit may bring.
 pub record IsReady (p : ZoneParams) (here : Side) (step : Step) : Type 0 where
@@ -41,8 +50,10 @@ pub record IsReady (p : ZoneParams) (here : Side) (step : Step) : Type 0 where
   pub submap : p.submap < 5
   pub some_pages : 1 ≤ p.pages
   pub few_pages : p.pages ≤ 8
-  pub entries : 0 < room_left here.supply
-  pub chunks : 0 < grants_left p.submap p.pages here.supply → length here.book.zone.chunks < here.book.zone.most_chunks
+  pub entries : allocates step ≡ true → 0 < room_left here.supply
+  pub chunks : allocates step ≡ true → 0 < grants_left p.submap p.pages here.supply → length here.book.zone.chunks < here.book.zone.most_chunks
+  pub framed : mapped_count here.book.zone.chunks < length here.book.zone.chunks → HasMade p.pages here.supply
+  pub placed : allocates step ≡ true → p.pages ≤ pages_left here.supply.pages (stock_of here.supply) p.submap → HasMade p.pages here.supply
   pub backs : trims step ≡ true → count_by (λ chunk. chunk.mapped) here.book.zone.chunks ≤ backs_left p.pages here.supply
 
 -- what the CPU has of the zone after its recent steps

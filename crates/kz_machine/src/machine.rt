@@ -9,13 +9,13 @@ ghost use Rattle.kz_machine.specs.Machine.{replies_at};
 ghost use Rattle.kz_machine.specs.Stands.{IsAt, IsTurn, IsRoundsEnd};
 
 use crate::blank::Blank;
-use crate::opening::{books_of, cpus_of, entries_of, limit_rooms, replies_of};
+use crate::opening::{books_of, cpus_of, entries_of, frames_of, limit_rooms, replies_of};
 use crate::settling::settle;
 use crate::stepping::one_step;
 use kz_book::Book;
-use kz_bundle::rooms;
+use kz_bundle::{count_kind, rooms};
 use kz_cpu::Cpu;
-use kz_model::{Bundle, Plan, Record, Reply, ReplySheet, Room, Step};
+use kz_model::{Bundle, LineKind, Plan, Record, Reply, ReplySheet, Room, Step};
 use kz_plan::plans_are_fit;
 use kz_supply::Supply;
 use std::alloc::{AllocError, Global};
@@ -50,14 +50,17 @@ impl Machine {
         ensures { IfOk result (λ machine. IsAt bundle.now plan.now machine (play_opened bundle.now plan.now)) }
     {
         plans_are_fit();
+        let allocations = count_kind(alloc, bundle, plan, LineKind::Allocating)?;
+        let gifts = count_kind(alloc, bundle, plan, LineKind::Giving)?;
         let rooms = rooms(alloc, bundle, plan)?;
-        let entries = entries_of(&rooms);
-        let rooms = limit_rooms(alloc, bundle, plan, rooms)?;
+        let rooms = limit_rooms(bundle, plan, &allocations, &gifts, rooms);
+        let frames = frames_of(&rooms, bundle.pages);
+        let entries = entries_of(&allocations);
         let names = bundle.names.len() as u32;
         Ok(Machine {
             cpus: cpus_of(alloc, bundle.cpus, &rooms, names, bundle.pages.max(1))?,
             books: books_of(alloc, &rooms)?,
-            supply: Supply::new(alloc, bundle.frames, bundle.pages, entries)?,
+            supply: Supply::with_made(alloc, bundle.frames, frames, bundle.pages, entries)?,
             replies: replies_of(alloc, bundle.traces.as_slice())?,
             round: 0,
             blank: Blank::new(alloc, bundle.cpus, &rooms)?,

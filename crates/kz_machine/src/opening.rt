@@ -5,12 +5,10 @@ ghost use Rattle.kz_model.specs.Planned.{IsPlanned};
 ghost use Rattle.kz_model.specs.Rooms.{rooms_of};
 ghost use Rattle.kz_zone.specs.Room.{IsFit};
 ghost use Rattle.kz_cpu.specs.Cpu.{opened_cpu};
-ghost use Rattle.kz_machine.specs.Blank.{most_entries};
-ghost use Rattle.kz_machine.specs.Needs.{needed, needed_rooms};
+ghost use Rattle.kz_machine.specs.Needs.{needed, needed_rooms, allocations_of, gifts_of, most_entries, frames_in, frames_needed};
 ghost use Rattle.kz_machine.specs.Opening.{AreOpened};
 
 use kz_book::Book;
-use kz_bundle::gifts;
 use kz_cpu::Cpu;
 use kz_model::{Bundle, Plan, ReplySheet, Room, Trace};
 use kz_plan::plans_are_fit;
@@ -61,40 +59,60 @@ pub fn replies_of(alloc: Global, traces: &[Trace]) -> Result<Vec<ReplySheet>, Al
     Ok(replies)
 }
 
-/// How many entries the supply's log may have: two for each line.
-pub fn entries_of(rooms: &[Room]) -> u32
-    requires { most_entries rooms.now < 2 ^ 32 }
-    ensures { result ≡ most_entries rooms.now }
+/// How many entries the supply's log may have where so many lines on each zone allocate: two for each.
+pub fn entries_of(allocations: &[u32]) -> u32
+    requires { most_entries allocations.now < 2 ^ 32 }
+    ensures { result ≡ most_entries allocations.now }
 {
-    2 * rooms.iter().map(|room| room.transit).sum::<u32>()
+    2 * allocations.iter().sum::<u32>()
 }
 
-/// Leaves a room no more than a run with so many frames can use, in which so many lines give a block away.
-fn limit(room: &mut Room, frames: u32, gifts: u32)
+/// Leaves a room no more than a run with so many frames can use, in which so many lines allocate and so many give a block away.
+fn limit(room: &mut Room, frames: u32, allocations: u32, gifts: u32)
     requires pages { 0 < room.old.params.pages }
     requires frames { frames ≤ 8192 }
-    ensures { room.new ≡ needed frames gifts room.old }
+    ensures { room.new ≡ needed frames allocations gifts room.old }
 {
     let full = frames / room.params.pages;
-    room.chunks = room.chunks.min(room.transit).min(full + 1);
+    room.chunks = room.chunks.min(allocations).min(full + 1);
     room.transit = gifts;
 }
 
-/// The zones' rooms, each left no more than the bundle's run can use.
+/// Leaves the zones' rooms, each of which so many lines allocate and so many give a block away, no more than the bundle's run can use.
 pub fn limit_rooms(
-    alloc: Global,
     bundle: &Bundle,
     plan: &Plan,
+    allocations: &[u32],
+    gifts: &[u32],
     mut rooms: Vec<Room>,
-) -> Result<Vec<Room>, AllocError>
+) -> Vec<Room>
     requires planned { IsPlanned bundle.now plan.now }
+    requires allocations { allocations.now ≡ allocations_of bundle.now plan.now }
+    requires gifts { gifts.now ≡ gifts_of bundle.now plan.now }
     requires rooms { rooms.items ≡ rooms_of bundle.now plan.now }
-    ensures { IfOk result (λ rooms. rooms.items ≡ needed_rooms bundle.now plan.now) }
+    ensures { result.items ≡ needed_rooms bundle.now plan.now }
 {
     plans_are_fit();
-    let gifts = gifts(alloc, bundle, plan)?;
     for zone in 0..rooms.len() {
-        limit(&mut rooms[zone], bundle.frames, gifts[zone]);
+        limit(
+            &mut rooms[zone],
+            bundle.frames,
+            allocations[zone],
+            gifts[zone],
+        );
     }
-    Ok(rooms)
+    rooms
+}
+
+/// How many frames can be out at once: those of all chunks in these rooms, and no more than the pages of five submaps.
+pub fn frames_of(rooms: &[Room], pages: u32) -> u32
+    requires few { frames_in rooms.now < 2 ^ 32 }
+    requires pages { pages ≤ 4096 }
+    ensures { result ≡ frames_needed pages rooms.now }
+{
+    let mut frames = 0;
+    for room in rooms {
+        frames += room.params.pages * room.chunks;
+    }
+    frames.min(5 * pages)
 }

@@ -5,8 +5,19 @@ use Rattle.kz_supply.specs.Exchange.{ask_of, entries_of}
 use Rattle.kz_supply.specs.Supply.{with_exchanges}
 use Rattle.kz_supply.proofs.Uses.{used, used_answered}
 use Rattle.kz_machine.specs.Steps.{side}
+use Rattle.kz_machine.proofs.Answering.{answers_ready, places_ready}
 use Rattle.kz_machine.proofs.Steps.{visit_does}
 use Rattle.kz_machine.proofs.stepping.visit.Goals as goal
+
+pub slow-requires-clause-answers : goal.slow-requires-clause-answers
+slow-requires-clause-answers c =
+    let here = c.new-pages.ensures in
+    rw (here.supply, here.params, here.start) (answers_ready c.args.params.now (side c.args.cpu.now c.args.book.now c.args.supply.now) c.args.step.now c.requires.ready _)
+
+pub slow-requires-clause-few : goal.slow-requires-clause-few
+slow-requires-clause-few c =
+    let here = c.new-pages.ensures in
+    rw (here.supply, here.params) (places_ready c.args.params.now (side c.args.cpu.now c.args.book.now c.args.supply.now) c.args.step.now c.requires.ready _)
 
 pub returns : goal.returns
 returns c =
