@@ -52,14 +52,13 @@ struct Player {
 
 impl Model for Player {
     ghost use Rattle.std.specs.Prelude.{ℕ};
-    ghost use Rattle.kz_supply.specs.Supply.{IsMadeWhole};
     ghost use Rattle.kz_cpu.specs.Playing.{IsPlaying};
 
     ghost Value = { ℕ };
 
     ghost view = { λ p. p.left };
 
-    ghost invariant = { λ p. IsPlaying p.cpu p.book p.supply p.params p.left × IsMadeWhole p.supply };
+    ghost invariant = { λ p. IsPlaying p.cpu p.book p.supply p.params p.left };
 }
 
 impl Player {

@@ -11,7 +11,7 @@ use Rattle.kz_model.specs.Rules.{must_grow}
 use Rattle.kz_model.specs.Zone.{Chunk, chunk_at}
 use Rattle.kz_supply.specs.declared.pages.Want.{Want}
 use Rattle.kz_supply.specs.declared.pages.Want.TheVariants as want
-use Rattle.kz_supply.specs.Solo.{can_place, can_give}
+use Rattle.kz_supply.specs.ThinSolo.{can_place, can_give}
 use Rattle.kz_supply.specs.Supply.{grants_left}
 use Rattle.kz_supply.proofs.Grants.{chunks_begin, frames_begin}
 use Rattle.kz_zone.specs.Growth.{CanAnswer, HasPlace}
@@ -34,16 +34,16 @@ module _ (p : ZoneParams) (here : Side) (step : Step) (ready : IsReady p here st
   z = here.book.zone
 
   abbrev entries : ℕ
-  entries = length here.supply.log
+  entries = length here.supply.counted.log
 
-  log_room : allocates step ≡ true → entries < here.supply.room
+  log_room : allocates step ≡ true → entries < here.supply.counted.room
   log_room is = let left = ready.entries is in omega arith
 
   abbrev Answered : Want → Type 0
   Answered w = CanAnswer w (can_place entries p here.supply) (can_give entries p here.supply)
 
   abbrev Placed : Want → Type 0
-  Placed w = HasPlace w (grants_left p.submap p.pages here.supply) (length z.chunks) z.most_chunks
+  Placed w = HasPlace w (grants_left p.submap p.pages here.supply.counted) (length z.chunks) z.most_chunks
 
   filled : allocates step ≡ true → Answered (want_of z)
   filled is =

@@ -11,7 +11,7 @@ use Rattle.kz_model.specs.declared.supply.SupplyEntry.{SupplyEntry}
 use Rattle.kz_model.specs.Play.{ZonePlay, Play, no_play, zone_play, record_of}
 use Rattle.kz_model.specs.PlayedAt.{IsPlaySound}
 use Rattle.kz_model.specs.Zone.{Chunk, Shared}
-use Rattle.kz_supply.specs.Supply.{Supply}
+use Rattle.kz_supply.specs.Thin.{ThinSupply}
 use Rattle.kz_book.specs.Book.{Book}
 use Rattle.kz_machine.specs.Blank.{HasRoomFor, sheet_at}
 use Rattle.kz_machine.specs.Looks.{no_book, no_room, book_at}
@@ -56,14 +56,14 @@ module _ (m : Machine) (b : Bundle) (plan : Plan) (s : Play) (at : IsAt b plan m
   zones_long = at.books_long ∙ sym sound.zones
 
   pub record_is :
-      made (map (λ r. r.items) m.replies) (map (λ book. book.visits) m.books) (map (λ book. map (λ chunk. chunk.mapped) book.zone.chunks) m.books) m.supply.log ≡ record_of s
+      made (map (λ r. r.items) m.replies) (map (λ book. book.visits) m.books) (map (λ book. map (λ chunk. chunk.mapped) book.zone.chunks) m.books) m.supply.counted.log ≡ record_of s
   record_is =
       let visits = map_alike (λ (book : Book). book.visits) (λ (z : ZonePlay). z.visits) m.books s.zones no_book no_play [] zones_long (λ zone within. (zone_at zone within).visits) in
       let mapped =
       map_alike (λ (book : Book). map (λ (chunk : Chunk). chunk.mapped) book.zone.chunks) (λ (z : ZonePlay). map (λ (chunk : Chunk). chunk.mapped) z.state.shared.chunks) m.books s.zones no_book no_play [] zones_long
       (λ zone within.
       let is = zone_at zone within in ap (λ (chunks : List Chunk). map (λ (chunk : Chunk). chunk.mapped) chunks) (sym (ap (λ (s : Shared). s.chunks) is.delayed.shared ∙ is.keeps.shows.chunks))) in
-      ap (λ (replies : List (List Reply)). made replies (map (λ (book : Book). book.visits) m.books) (map (λ (book : Book). map (λ (chunk : Chunk). chunk.mapped) book.zone.chunks) m.books) m.supply.log) at.replies
-      ∙ ap (λ (visits : List (List Visit)). made s.replies visits (map (λ (book : Book). map (λ (chunk : Chunk). chunk.mapped) book.zone.chunks) m.books) m.supply.log) visits
-      ∙ ap (λ (mapped : List (List Bool)). made s.replies (map (λ (z : ZonePlay). z.visits) s.zones) mapped m.supply.log) mapped
-      ∙ ap (λ (log : List SupplyEntry). made s.replies (map (λ (z : ZonePlay). z.visits) s.zones) (map (λ (z : ZonePlay). map (λ (chunk : Chunk). chunk.mapped) z.state.shared.chunks) s.zones) log) (ap (λ (s : Supply). s.log) at.supply)
+      ap (λ (replies : List (List Reply)). made replies (map (λ (book : Book). book.visits) m.books) (map (λ (book : Book). map (λ (chunk : Chunk). chunk.mapped) book.zone.chunks) m.books) m.supply.counted.log) at.replies
+      ∙ ap (λ (visits : List (List Visit)). made s.replies visits (map (λ (book : Book). map (λ (chunk : Chunk). chunk.mapped) book.zone.chunks) m.books) m.supply.counted.log) visits
+      ∙ ap (λ (mapped : List (List Bool)). made s.replies (map (λ (z : ZonePlay). z.visits) s.zones) mapped m.supply.counted.log) mapped
+      ∙ ap (λ (log : List SupplyEntry). made s.replies (map (λ (z : ZonePlay). z.visits) s.zones) (map (λ (z : ZonePlay). map (λ (chunk : Chunk). chunk.mapped) z.state.shared.chunks) s.zones) log) (ap (λ (s : ThinSupply). s.counted.log) at.supply)

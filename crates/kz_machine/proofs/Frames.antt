@@ -16,7 +16,8 @@ use Rattle.kz_model.specs.Supply.{stocked, pages_left}
 use Rattle.kz_model.specs.Valid.{IsValid}
 use Rattle.kz_model.specs.Zone.{Chunk}
 use Rattle.kz_model.proofs.LineKinds.{kind_done_few}
-use Rattle.kz_supply.specs.Supply.{Supply, HasMade, grants_left, frames_out}
+use Rattle.kz_supply.specs.Supply.{grants_left, frames_out}
+use Rattle.kz_supply.specs.Thin.{ThinSupply, HasMade}
 use Rattle.kz_model.proofs.Sums.{sum_below-le}
 use Rattle.kz_machine.specs.Needs.{needed_of, needed_rooms, allocations_of, most_entries, frames_in, frames_needed}
 use Rattle.kz_machine.proofs.Cursors.{chunks_below, grants_and_chunks}
@@ -31,8 +32,8 @@ mapped_few (chunk ∷ chunks) =
     omega (arith, one, mapped_few chunks)
 
 -- the supply of the run
-abbrev pub supply_of : Bundle → Plan → Play → Supply
-supply_of b plan s = record { frames = b.frames; made = min b.frames (frames_needed b.pages (needed_rooms b plan)); pages = b.pages; room = most_entries (allocations_of b plan); log = s.log }
+abbrev pub supply_of : Bundle → Plan → Play → ThinSupply
+supply_of b plan s = record { counted = record { frames = b.frames; pages = b.pages; room = most_entries (allocations_of b plan); log = s.log }; made = min b.frames (frames_needed b.pages (needed_rooms b plan)) }
 
 module _ (b : Bundle) (plan : Plan) (s : Play) (valid : IsValid b) (fit : IsFitPlan b plan) (sound : IsPlaySound b plan s) (own : All (λ entry. IsForZone (params_of b plan entry.zone) entry.ask) s.log) where
   abbrev n : ℕ
@@ -47,19 +48,19 @@ module _ (b : Bundle) (plan : Plan) (s : Play) (valid : IsValid b) (fit : IsFitP
       let known = (params_fit b plan zone valid fit lt).submap in
       omega arith
 
-  abbrev supply_now : Supply
+  abbrev supply_now : ThinSupply
   supply_now = supply_of b plan s
 
   -- ---- chunks
 
-  pub in_submap : (zone : ℕ) → zone < n → grants_left (params_of b plan zone).submap (pages zone) supply_now + chunks_there s zone ≤ b.pages / pages zone
+  pub in_submap : (zone : ℕ) → zone < n → grants_left (params_of b plan zone).submap (pages zone) supply_now.counted + chunks_there s zone ≤ b.pages / pages zone
   in_submap zone lt =
       let known = params_fit b plan zone valid fit lt in
       let submap = (params_of b plan zone).submap in
       let cursor = slice_index (stock_of b s.log).cursors submap in
       let inside : cursor ≤ b.pages = All-get_or (λ cursor. cursor ≤ b.pages) (stock_of b s.log).cursors submap 0 (submap_there zone lt) sound.supplied.within in
       let below = chunks_below (params_of b plan) zone b.pages s.log (stocked b.frames) known.submap own sound.supplied.answers in
-      subst (λ k. grants_left submap (pages zone) supply_now + k ≤ b.pages / pages zone) (sound.each zone lt).bases
+      subst (λ k. grants_left submap (pages zone) supply_now.counted + k ≤ b.pages / pages zone) (sound.each zone lt).bases
       (grants_and_chunks b.pages cursor (pages zone) (length (bases zone s.log)) known.shape.some_pages below inside)
 
   framed : (zone : ℕ) → zone < n → chunks_there s zone ≤ b.frames / pages zone
@@ -77,7 +78,7 @@ module _ (b : Bundle) (plan : Plan) (s : Play) (valid : IsValid b) (fit : IsFitP
 
   -- ---- frames that are out
 
-  pub out_is : frames_out supply_now ≡ sum_below (pages_held b plan s) n
+  pub out_is : frames_out supply_now.counted ≡ sum_below (pages_held b plan s) n
   out_is = let all = sound.frames in omega arith
 
   abbrev most_held : ℕ → ℕ
@@ -102,7 +103,7 @@ module _ (b : Bundle) (plan : Plan) (s : Play) (valid : IsValid b) (fit : IsFitP
   one_more : (size mapped most : ℕ) → mapped < most → size * mapped + size ≤ size * most
   one_more size mapped most less = let product : size * (mapped + 1) ≡ size * mapped + size = omega arith in let le = mul-le-mul_left size (let more : mapped + 1 ≤ most = omega arith in more) in omega arith
 
-  out_among : (zone : ℕ) → zone < n → mapped_count (zone_play s zone).state.shared.chunks < (needed_of b plan zone).chunks → frames_out supply_now + pages zone ≤ frames_in (needed_rooms b plan)
+  out_among : (zone : ℕ) → zone < n → mapped_count (zone_play s zone).state.shared.chunks < (needed_of b plan zone).chunks → frames_out supply_now.counted + pages zone ≤ frames_in (needed_rooms b plan)
   out_among zone lt less =
       let sums = sum_below-room (pages_held b plan s) most_held n zone (pages zone) lt (one_more (pages zone) (mapped_count (zone_play s zone).state.shared.chunks) (needed_of b plan zone).chunks less) held_fit in
       omega (arith, out_is, frames_are b plan)
@@ -113,7 +114,7 @@ module _ (b : Bundle) (plan : Plan) (s : Play) (valid : IsValid b) (fit : IsFitP
       let spread = pages_spread (params_of b plan) n b.pages s.log (stocked b.frames) (λ zone lt. (params_fit b plan zone valid fit lt).submap) sound.supplied.of_zones own sound.supplied.answers in
       omega (arith, none, spread)
 
-  has_made : (count : ℕ) → frames_out supply_now + count ≤ frames_in (needed_rooms b plan) → frames_out supply_now + count ≤ 5 * b.pages → HasMade count supply_now
+  has_made : (count : ℕ) → frames_out supply_now.counted + count ≤ frames_in (needed_rooms b plan) → frames_out supply_now.counted + count ≤ 5 * b.pages → HasMade count supply_now
   has_made count in_chunks in_pages less few = omega arith
 
   -- the frames of an unmapped chunk

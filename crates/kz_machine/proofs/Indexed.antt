@@ -10,7 +10,7 @@ use Rattle.kz_model.specs.declared.step.Step.{Step}
 use Rattle.kz_model.specs.Journal.{params_of}
 use Rattle.kz_model.specs.Play.{Play, replies_so_far, effect_there, played}
 use Rattle.kz_supply.specs.Exchange.{Exchange}
-use Rattle.kz_supply.specs.Supply.{Supply}
+use Rattle.kz_supply.specs.Thin.{ThinSupply}
 use Rattle.kz_book.specs.Book.{Book, Journal, Keeps}
 use Rattle.kz_cpu.specs.Cpu.{Cpu}
 use Rattle.kz_cpu.specs.Caught.{IsCaughtUp}
@@ -55,7 +55,7 @@ module _ (m : Machine) (cpu zone : ℕ) (step : Step) (b : Bundle) (plan : Plan)
         (subst (λ (book : Book). IsReady (params_of b plan zone) (side c book m.supply) step) book_is
         (subst (λ (c : Cpu). IsReady (params_of b plan zone) (side c (book_at m.books zone) m.supply) step) cpu_is (ready_here b plan m s cpu zone step at turn)))
 
-    module _ (d : Cpu) (shelf : Book) (supply : Supply) (reply : Reply)
+    module _ (d : Cpu) (shelf : Book) (supply : ThinSupply) (reply : Reply)
         (does : (j : Journal) → Keeps book j → IsCaughtUp c room.params.zone j → (after : Journal) × (exchanges : List Exchange) × Does room.params m.round (side c book m.supply) (side d shelf supply) step reply j after exchanges) where
       abbrev there-in : zone < length plan.zones
       there-in = in_zones b plan m s cpu zone step at turn

@@ -157,7 +157,7 @@ module _ (b : Bundle) (plan : Plan) where
   none_said (trace ∷ traces) = ap (λ (l : List (List Reply)). [] ∷ l) (none_said traces)
 
   pub opens_at : (m : Machine) → IsPlanned b plan → IsFitPlan b plan → m.cpus ≡ all_opened → AreOpened (needed_rooms b plan) m.books → m.rooms ≡ needed_rooms b plan →
-      m.supply ≡ record { frames = b.frames; made = min b.frames (frames_needed b.pages (needed_rooms b plan)); pages = b.pages; room = most_entries (allocations_of b plan); log = [] } →
+      m.supply ≡ record { counted = record { frames = b.frames; pages = b.pages; room = most_entries (allocations_of b plan); log = [] }; made = min b.frames (frames_needed b.pages (needed_rooms b plan)) } →
       m.replies ≡ map (λ trace. record { room = length trace; items = [] }) b.traces → m.round ≡ 0 → IsBlankFor (needed_rooms b plan) b.cpus m.blank →
       IsAt b plan m (play_opened b plan)
   opens_at m planned fit cpus books rooms supply replies round blank =

@@ -28,7 +28,8 @@ use Rattle.kz_model.proofs.PlayedReplies.{step_within}
 use Rattle.kz_model.proofs.TraceRounds.{steps_within}
 use Rattle.kz_model.specs.Supply.{pages_left}
 use Rattle.kz_supply.specs.Supply.{stock_of as left_of}
-use Rattle.kz_supply.specs.Supply.{Supply, HasMade, room_left, backs_left, grants_left, frames_out}
+use Rattle.kz_supply.specs.Supply.{Supply, room_left, backs_left, grants_left, frames_out}
+use Rattle.kz_supply.specs.Thin.{ThinSupply, HasMade}
 use Rattle.kz_book.specs.Book.{Book, carried_by}
 use Rattle.kz_book.specs.Visits.{has_name, gives, ReadsFew}
 use Rattle.kz_cpu.specs.Cpu.{Cpu, IsTagged, binding_at, recent_at}
@@ -214,11 +215,11 @@ module _ (b : Bundle) (plan : Plan) (m : Machine) (s : Play) (cpu zone : ℕ) (s
   backs_room : length s.log + mapped_count z.state.shared.chunks ≤ most_entries (allocations_of b plan)
   backs_room = entries_room (mapped_count z.state.shared.chunks) (let entries = sound.entries in let done = kind_done_few b plan is_allocating s zone in omega arith)
 
-  room_is : room_left m.supply ≡ most_entries (allocations_of b plan) - length s.log
-  room_is = ap room_left at.supply
+  room_is : room_left m.supply.counted ≡ most_entries (allocations_of b plan) - length s.log
+  room_is = ap (λ (q : ThinSupply). room_left q.counted) at.supply
 
   abbrev q : Supply
-  q = supply_of b plan s
+  q = (supply_of b plan s).counted
 
   in_submap : grants_left p.submap p.pages q + length z.state.shared.chunks ≤ b.pages / p.pages
   in_submap = submap_fits b plan s valid at.fit turn.sound at.own_asks zone in_zones
@@ -275,19 +276,19 @@ module _ (b : Bundle) (plan : Plan) (m : Machine) (s : Play) (cpu zone : ℕ) (s
             let room = entries_room 1 (omega arith) in
             let log = room_is in omega arith;
         chunks = λ is some.
-            let room = chunks_left is (subst (λ (q : Supply). 0 < grants_left p.submap p.pages q) at.supply some) in
+            let room = chunks_left is (subst (λ (q : ThinSupply). 0 < grants_left p.submap p.pages q.counted) at.supply some) in
             subst (λ (l : List Chunk). length l < book.zone.most_chunks) (sym chunks_are) (subst (λ n. length z.state.shared.chunks < n) (sym there.most_chunks) room);
         framed = λ less.
-            subst (λ (q : Supply). HasMade p.pages q) (sym at.supply)
+            subst (λ (q : ThinSupply). HasMade p.pages q) (sym at.supply)
             (unmapped_made b plan s valid at.fit turn.sound at.own_asks zone in_zones (subst (λ (l : List Chunk). mapped_count l < length l) chunks_are less));
         placed = λ is left.
-            let there = subst (λ (q : Supply). p.pages ≤ pages_left q.pages (left_of q) p.submap) at.supply left in
+            let there = subst (λ (q : ThinSupply). p.pages ≤ pages_left q.counted.pages (left_of q.counted) p.submap) at.supply left in
             let some : 0 < grants_left p.submap p.pages q = le-div 1 (pages_left b.pages (stock_of b s.log) p.submap) p.pages fit.shape.some_pages (omega arith) in
-            subst (λ (q : Supply). HasMade p.pages q) (sym at.supply) (granted_made b plan s valid at.fit turn.sound at.own_asks zone in_zones (chunks_left is some) there);
+            subst (λ (q : ThinSupply). HasMade p.pages q) (sym at.supply) (granted_made b plan s valid at.fit turn.sound at.own_asks zone in_zones (chunks_left is some) there);
         backs = λ trims.
             let out = le-div (mapped_count z.state.shared.chunks) (frames_out q) p.pages fit.shape.some_pages (omega (arith, frames_left)) in
             let room = backs_room in
             let enough : mapped_count z.state.shared.chunks ≤ backs_left p.pages q = omega arith in
-            subst (λ (q : Supply). count_by (λ (chunk : Chunk). chunk.mapped) book.zone.chunks ≤ backs_left p.pages q) (sym at.supply)
+            subst (λ (q : ThinSupply). count_by (λ (chunk : Chunk). chunk.mapped) book.zone.chunks ≤ backs_left p.pages q.counted) (sym at.supply)
             (subst (λ (l : List Chunk). count_by (λ (chunk : Chunk). chunk.mapped) l ≤ backs_left p.pages q) (sym chunks_are) (subst (λ n. n ≤ backs_left p.pages q) (mapped_same z.state.shared.chunks) enough));
       }

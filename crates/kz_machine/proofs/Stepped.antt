@@ -25,7 +25,7 @@ use Rattle.kz_model.proofs.OrderLines.{answers_at-append, entries_elsewhere, new
 use Rattle.kz_model.proofs.Stocks.{log_here}
 use Rattle.kz_model.proofs.Undelayed.{IsLateNow, mine_or_other, one_more_late, caught_up, both_step}
 use Rattle.kz_supply.specs.Exchange.{Exchange, ask_of, answer_of, entries_of}
-use Rattle.kz_supply.specs.Supply.{Supply, with_exchanges}
+use Rattle.kz_supply.specs.Thin.{ThinSupply, thin_with_exchanges}
 use Rattle.kz_book.specs.Book.{Book, Journal}
 use Rattle.kz_book.specs.Visits.{own_now, visit_of}
 use Rattle.kz_cpu.specs.Cpu.{Cpu, recent_at}
@@ -47,7 +47,7 @@ entries_answers zone [] = refl
 entries_answers zone (e ∷ es) = ap (λ l. e.1 ∷ l) (entries_answers zone es)
 
 module _ (b : Bundle) (plan : Plan) (m : Machine) (s : Play) (cpu zone : ℕ) (step : Step) (at : IsAt b plan m s) (turn : IsTurn b plan s cpu zone step)
-    (d : Cpu) (shelf : Book) (supply : Supply) (told : ReplySheet) (reply : Reply) (next : Journal) (exchanges : List Exchange)
+    (d : Cpu) (shelf : Book) (supply : ThinSupply) (told : ReplySheet) (reply : Reply) (next : Journal) (exchanges : List Exchange)
     (does : let in-zones = in_zones b plan m s cpu zone step at turn in
     Does (params_of b plan zone) m.round (side (cpu_at m.cpus cpu) (book_at m.books zone) m.supply) (side d shelf supply) step reply (at.zones zone in-zones).history next exchanges)
     (items : told.items ≡ (replies_at m.replies cpu).items ++ reply ∷ []) (room : (replies_at m.replies cpu).room ≤ told.room) where
@@ -122,8 +122,8 @@ module _ (b : Bundle) (plan : Plan) (m : Machine) (s : Play) (cpu zone : ℕ) (s
 
   entries_are : entries_of zone exchanges ≡ asked b plan s cpu zone step
   entries_are =
-      does.answered_by b (ap (λ (s : Supply). s.frames) at.supply) (ap (λ (s : Supply). s.pages) at.supply)
-      ∙ ap (λ (log : List SupplyEntry). answered b zone log (map ask_of exchanges)) (ap (λ (s : Supply). s.log) at.supply)
+      does.answered_by b (ap (λ (s : ThinSupply). s.counted.frames) at.supply) (ap (λ (s : ThinSupply). s.counted.pages) at.supply)
+      ∙ ap (λ (log : List SupplyEntry). answered b zone log (map ask_of exchanges)) (ap (λ (s : ThinSupply). s.counted.log) at.supply)
       ∙ ap (λ (asks : List Ask). answered b zone s.log asks) asks_are
 
   answers_are : map (λ (entry : SupplyEntry). entry.answer) (asked b plan s cpu zone step) ≡ map answer_of exchanges
@@ -315,8 +315,8 @@ module _ (b : Bundle) (plan : Plan) (m : Machine) (s : Play) (cpu zone : ℕ) (s
         replies = replies_now;
         places = places_now;
         supply = does.supply
-            ∙ ap (λ (s : Supply). with_exchanges zone exchanges s) at.supply
-            ∙ ap (λ (log : List SupplyEntry). let s : Supply = record { frames = b.frames; made = min b.frames (frames_needed b.pages (needed_rooms b plan)); pages = b.pages; room = most_entries (allocations_of b plan); log = log } in s) (sym log_is);
+            ∙ ap (λ (s : ThinSupply). thin_with_exchanges zone exchanges s) at.supply
+            ∙ ap (λ (log : List SupplyEntry). let s : ThinSupply = record { counted = record { frames = b.frames; pages = b.pages; room = most_entries (allocations_of b plan); log = log }; made = min b.frames (frames_needed b.pages (needed_rooms b plan)) } in s) (sym log_is);
         own_asks = All-append (λ (entry : SupplyEntry). IsForZone (params_of b plan entry.zone) entry.ask) s.log (asked b plan s cpu zone step) at.own_asks (step_entries_own (params_of b plan) zone z.state.shared cpu own step (new_answers b s.log asks));
         rooms = at.rooms;
         cpus_long = length-set m.cpus cpu d ∙ at.cpus_long;

@@ -14,7 +14,7 @@ use Rattle.kz_model.specs.Zone.{Own, own_of}
 use Rattle.kz_model.proofs.Delays.{no_asks, effect_is_local}
 use Rattle.kz_model.proofs.LateSteps.{need_none-push, own_after-push}
 use Rattle.kz_supply.specs.Exchange.{Exchange, ask_of, entries_of}
-use Rattle.kz_supply.specs.Supply.{with_exchanges}
+use Rattle.kz_supply.specs.Thin.{thin_with_exchanges}
 use Rattle.kz_book.specs.Book.{Journal, Keeps, params_of}
 use Rattle.kz_book.specs.Visits.{Extends, own_now, visit_of}
 use Rattle.kz_cpu.specs.Cpu.{Cpu, Has, IsElsewhere, cache_at, recent_at}
@@ -81,7 +81,7 @@ module _ (p : ZoneParams) (round : ℕ) (old : Side) (cpu : Cpu) (step : Step) (
       caught = caught_now;
       asks = sym (no_asks p j.made.end.shared old.cpu.cpu (own_here p old j) step none_here);
       answered_by = λ b frames pages. refl;
-      supply = ap (λ (log : List SupplyEntry). record old.supply { log = log }) (sym (append-nil old.supply.log));
+      supply = ap (λ (log : List SupplyEntry). record old.supply { counted = record old.supply.counted { log = log } }) (sym (append-nil old.supply.counted.log));
       answers = sym (append-nil j.answers);
       is_reply = reply_is;
       room = refl;
@@ -98,8 +98,8 @@ module _ (p : ZoneParams) (round : ℕ) (old : Side) (cpu : Cpu) (step : Step) (
 
 pub visit_does : (p : ZoneParams) (round : ℕ) (old new : Side) (step : Step) (reply : Reply) (exchanges : List Exchange) → IsReady p old step →
     ((j : Journal) → Keeps old.book j → IsCaughtUp old.cpu p.zone j → needs_here p old j step ≡ true) →
-    new.supply ≡ with_exchanges p.zone exchanges old.supply →
-    ((b : Bundle) → old.supply.frames ≡ b.frames → old.supply.pages ≡ b.pages → entries_of p.zone exchanges ≡ answered b p.zone old.supply.log (map ask_of exchanges)) →
+    new.supply ≡ thin_with_exchanges p.zone exchanges old.supply →
+    ((b : Bundle) → old.supply.counted.frames ≡ b.frames → old.supply.counted.pages ≡ b.pages → entries_of p.zone exchanges ≡ answered b p.zone old.supply.counted.log (map ask_of exchanges)) →
     new.book.visits ≡ old.book.visits ++ visit_of round old.cpu.cpu (recent_at old.cpu p.zone) ∷ [] → new.book.room ≡ old.book.room → new.book.zone.most_chunks ≡ old.book.zone.most_chunks → new.book.zone.most_gifts ≡ old.book.zone.most_gifts →
     ((j : Journal) → Keeps old.book j → IsCaughtUp old.cpu p.zone j →
     (after : Journal) × Keeps new.book after × Extends (params_of old.book) old.cpu.cpu j after (recent_at old.cpu p.zone) step reply exchanges × IsCaughtUp new.cpu p.zone after) →

@@ -1,7 +1,7 @@
 -- A machine as contracts see it.
 use Rattle.std.specs.Prelude.{ℕ, List, slice_index_or}
 use Rattle.kz_model.specs.declared.record.Room.{Room}
-use Rattle.kz_supply.specs.Supply.{Supply}
+use Rattle.kz_supply.specs.Thin.{ThinSupply}
 use Rattle.kz_book.specs.Book.{Book}
 use Rattle.kz_cpu.specs.Cpu.{Cpu}
 use Rattle.kz_model.specs.Replies.{ReplySheet}
@@ -12,7 +12,7 @@ pub record Machine : Type 0 where
   pub cpus : List Cpu
   pub books : List Book
   pub rooms : List Room
-  pub supply : Supply
+  pub supply : ThinSupply
   pub replies : List ReplySheet
   pub round : ℕ
   pub blank : Blank

@@ -50,7 +50,7 @@ pub record IsAt (b : Bundle) (plan : Plan) (m : Machine) (s : Play) : Type 0 whe
   pub round : m.round ≡ s.round
   pub replies : map (λ r. r.items) m.replies ≡ s.replies
   pub places : (cpu : ℕ) → cpu < b.cpus → length (trace_of b cpu) ≤ (replies_at m.replies cpu).room
-  pub supply : m.supply ≡ record { frames = b.frames; made = min b.frames (frames_needed b.pages (needed_rooms b plan)); pages = b.pages; room = most_entries (allocations_of b plan); log = s.log }
+  pub supply : m.supply ≡ record { counted = record { frames = b.frames; pages = b.pages; room = most_entries (allocations_of b plan); log = s.log }; made = min b.frames (frames_needed b.pages (needed_rooms b plan)) }
   pub own_asks : All (λ entry. IsForZone (params_of b plan entry.zone) entry.ask) s.log
   pub rooms : m.rooms ≡ needed_rooms b plan
   pub cpus_long : length m.cpus ≡ b.cpus

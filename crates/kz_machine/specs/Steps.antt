@@ -12,7 +12,8 @@ use Rattle.kz_model.specs.Zone.{Own, ZoneState}
 use Rattle.kz_supply.specs.Exchange.{Exchange, ask_of, answer_of, entries_of}
 use Rattle.kz_model.specs.Amounts.{mapped_count}
 use Rattle.kz_model.specs.Supply.{pages_left}
-use Rattle.kz_supply.specs.Supply.{Supply, HasMade, stock_of, room_left, backs_left, grants_left, with_exchanges}
+use Rattle.kz_supply.specs.Supply.{stock_of, room_left, backs_left, grants_left}
+use Rattle.kz_supply.specs.Thin.{ThinSupply, HasMade, thin_with_exchanges}
 use Rattle.kz_book.specs.Book.{Book, Journal, Keeps, HasRoom, params_of}
 use Rattle.kz_book.specs.Visits.{own_now, effect_in, visit_of, gives, trims, ReadsFew}
 use Rattle.kz_cpu.specs.Cpu.{Cpu, IsOnZone, IsElsewhere, cache_at, recent_at}
@@ -22,9 +23,9 @@ use Rattle.kz_cpu.specs.Caught.{IsCaughtUp}
 pub record Side : Type 0 where
   pub cpu : Cpu
   pub book : Book
-  pub supply : Supply
+  pub supply : ThinSupply
 
-abbrev pub side : Cpu → Book → Supply → Side
+abbrev pub side : Cpu → Book → ThinSupply → Side
 side cpu book supply = record { cpu = cpu; book = book; supply = supply }
 
 -- a step that may ask the supply
@@ -50,11 +51,11 @@ pub record IsReady (p : ZoneParams) (here : Side) (step : Step) : Type 0 where
   pub submap : p.submap < 5
   pub some_pages : 1 ≤ p.pages
   pub few_pages : p.pages ≤ 8
-  pub entries : allocates step ≡ true → 0 < room_left here.supply
-  pub chunks : allocates step ≡ true → 0 < grants_left p.submap p.pages here.supply → length here.book.zone.chunks < here.book.zone.most_chunks
+  pub entries : allocates step ≡ true → 0 < room_left here.supply.counted
+  pub chunks : allocates step ≡ true → 0 < grants_left p.submap p.pages here.supply.counted → length here.book.zone.chunks < here.book.zone.most_chunks
   pub framed : mapped_count here.book.zone.chunks < length here.book.zone.chunks → HasMade p.pages here.supply
-  pub placed : allocates step ≡ true → p.pages ≤ pages_left here.supply.pages (stock_of here.supply) p.submap → HasMade p.pages here.supply
-  pub backs : trims step ≡ true → count_by (λ chunk. chunk.mapped) here.book.zone.chunks ≤ backs_left p.pages here.supply
+  pub placed : allocates step ≡ true → p.pages ≤ pages_left here.supply.counted.pages (stock_of here.supply.counted) p.submap → HasMade p.pages here.supply
+  pub backs : trims step ≡ true → count_by (λ chunk. chunk.mapped) here.book.zone.chunks ≤ backs_left p.pages here.supply.counted
 
 -- what the CPU has of the zone after its recent steps
 abbrev pub own_here : ZoneParams → Side → Journal → Own
@@ -76,8 +77,8 @@ pub record Does (p : ZoneParams) (round : ℕ) (old new : Side) (step : Step) (r
   pub keeps : Keeps new.book after
   pub caught : IsCaughtUp new.cpu p.zone after
   pub asks : map ask_of exchanges ≡ asks_of p before.made.end.shared old.cpu.cpu (own_here p old before) step
-  pub answered_by : (b : Bundle) → old.supply.frames ≡ b.frames → old.supply.pages ≡ b.pages → entries_of p.zone exchanges ≡ answered b p.zone old.supply.log (map ask_of exchanges)
-  pub supply : new.supply ≡ with_exchanges p.zone exchanges old.supply
+  pub answered_by : (b : Bundle) → old.supply.counted.frames ≡ b.frames → old.supply.counted.pages ≡ b.pages → entries_of p.zone exchanges ≡ answered b p.zone old.supply.counted.log (map ask_of exchanges)
+  pub supply : new.supply ≡ thin_with_exchanges p.zone exchanges old.supply
   pub answers : after.answers ≡ before.answers ++ map answer_of exchanges
   pub is_reply : reply ≡ (effect_here p old before step exchanges).reply
   pub room : new.book.room ≡ old.book.room

@@ -4,7 +4,7 @@ ghost use Rattle.kz_machine.specs.Blank.{IsBlankFor, HasRoomFor};
 
 use kz_book::Book;
 use kz_model::{Items, Record, Replies, ReplySheet, Room, Visit};
-use kz_supply::Supply;
+use kz_supply::ThinSupply;
 use std::alloc::{AllocError, Global};
 use std::marker::Model;
 
@@ -124,7 +124,7 @@ impl Blank {
     }
 
     /// The record of these replies, these zones and this supply.
-    pub fn record(self, replies: Vec<ReplySheet>, books: Vec<Book>, supply: Supply) -> Record
+    pub fn record(self, replies: Vec<ReplySheet>, books: Vec<Book>, supply: ThinSupply) -> Record
         requires replies { vec_len replies ≤ self.cpus }
         requires visits { length books.items ≤ self.visits }
         requires mapped { length books.items ≤ self.mapped }
@@ -133,7 +133,7 @@ impl Blank {
           replies = map (λ r. r.items) replies.items;
           visits = map (λ book. book.visits) books.items;
           mapped = map (λ book. map (λ chunk. chunk.mapped) book.zone.chunks) books.items;
-          supply = supply.log;
+          supply = supply.counted.log;
         } }
     {
         let Blank {

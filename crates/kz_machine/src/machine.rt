@@ -17,7 +17,7 @@ use kz_bundle::{count_kind, rooms};
 use kz_cpu::Cpu;
 use kz_model::{Bundle, LineKind, Plan, Record, Reply, ReplySheet, Room, Step};
 use kz_plan::plans_are_fit;
-use kz_supply::Supply;
+use kz_supply::ThinSupply;
 use std::alloc::{AllocError, Global};
 use std::marker::Model;
 
@@ -29,7 +29,7 @@ pub struct Machine {
     cpus: Vec<Cpu>,
     books: Vec<Book>,
     rooms: Vec<Room>,
-    supply: Supply,
+    supply: ThinSupply,
     replies: Vec<ReplySheet>,
     round: u32,
     blank: Blank,
@@ -60,7 +60,7 @@ impl Machine {
         Ok(Machine {
             cpus: cpus_of(alloc, bundle.cpus, &rooms, names, bundle.pages.max(1))?,
             books: books_of(alloc, &rooms)?,
-            supply: Supply::with_made(alloc, bundle.frames, frames, bundle.pages, entries)?,
+            supply: ThinSupply::new(alloc, bundle.frames, frames, bundle.pages, entries)?,
             replies: replies_of(alloc, bundle.traces.as_slice())?,
             round: 0,
             blank: Blank::new(alloc, bundle.cpus, &rooms)?,

@@ -8,7 +8,7 @@ ghost use Rattle.kz_machine.specs.Steps.{IsReady, Does, side, needs_here};
 use kz_book::Book;
 use kz_cpu::Cpu;
 use kz_model::{Reply, ReplySheet, Step, ZoneParams};
-use kz_supply::{SoloPages, Supply};
+use kz_supply::{ThinPages, ThinSupply};
 
 /// A visit to the zone, in which the supply answers it alone.
 ///
@@ -17,7 +17,7 @@ use kz_supply::{SoloPages, Supply};
 fn visit(
     cpu: &mut Cpu,
     book: &mut Book,
-    supply: &mut Supply,
+    supply: &mut ThinSupply,
     round: u32,
     params: &ZoneParams,
     step: &Step,
@@ -27,7 +27,7 @@ fn visit(
     ensures { (j : Journal) → Keeps book.old j → IsCaughtUp cpu.old params.now.zone j →
         (after : Journal) × (exchanges : List Exchange) × Does params.now round (side cpu.old book.old supply.old) (side cpu.new book.new supply.new) step.now result j after exchanges }
 {
-    let mut pages = SoloPages::new(supply, params);
+    let mut pages = ThinPages::new(supply, params);
     cpu.slow(round, params.zone, step, book, &mut pages)
 }
 
@@ -35,7 +35,7 @@ fn visit(
 pub fn one_step(
     cpu: &mut Cpu,
     book: &mut Book,
-    supply: &mut Supply,
+    supply: &mut ThinSupply,
     round: u32,
     params: &ZoneParams,
     step: &Step,

@@ -13,7 +13,8 @@ use Rattle.kz_model.specs.declared.supply.SupplyEntry.{SupplyEntry}
 use Rattle.kz_model.specs.Supply.{Stock, stocked, answer_of, stock_after, answers_from, supply_answers}
 use Rattle.kz_model.specs.Order.{answered}
 use Rattle.kz_supply.specs.Exchange.{Exchange, entries_of}
-use Rattle.kz_supply.specs.Supply.{Supply, AreAnswered, IsKept, frames_out, stock_with, stock_of, with_entry, with_exchanges}
+use Rattle.kz_supply.specs.Supply.{Supply, AreAnswered, frames_out, stock_with, stock_of, with_entry, with_exchanges}
+use Rattle.kz_supply.specs.Thin.{ThinSupply, IsKept, thin_with_entry}
 
 abbrev ask_in : SupplyEntry → Ask
 ask_in entry = entry.ask
@@ -94,17 +95,18 @@ free_kept stock (Back pages) (NoFrames free) = omega arith
 free_kept stock (Back pages) Taken = omega arith
 
 -- one more entry, and what is then left
-pub kept_more : (left new : Stock) (unmade capacity now : ℕ) (entry : SupplyEntry) (s : Supply) → IsKept left unmade capacity s → length s.log < s.room → capacity ≤ now → entry.answer ≡ answer_of s.pages left entry.ask → new ≡ stock_after left entry.ask entry.answer →
-    given_back entry.ask ≤ frames_out s → asked_for entry.ask ≤ 8 → IsKept new unmade now (with_entry entry s)
+pub kept_more : (left new : Stock) (unmade capacity now : ℕ) (entry : SupplyEntry) (s : ThinSupply) → IsKept left unmade capacity s → length s.counted.log < s.counted.room → capacity ≤ now → entry.answer ≡ answer_of s.counted.pages left entry.ask → new ≡ stock_after left entry.ask entry.answer →
+    given_back entry.ask ≤ frames_out s.counted → asked_for entry.ask ≤ 8 → IsKept new unmade now (thin_with_entry entry s)
 kept_more left new unmade capacity now entry s before more room answer after few small =
-    let size : length (s.log ++ entry ∷ []) ≡ length s.log + 1 = length-append s.log (entry ∷ []) in
+    let here = s.counted in
+    let size : length (here.log ++ entry ∷ []) ≡ length here.log + 1 = length-append here.log (entry ∷ []) in
     let kept : left.free ≤ new.free + 8 = omega (arith, small, ap (λ (l : Stock). l.free) after, free_kept left entry.ask entry.answer) in
-    let was = before.room in let free = before.free in let same : left.free ≡ (stock_of s).free = ap (λ (l : Stock). l.free) before.left_is in
-    let is : new ≡ stock_of (with_entry entry s) = after ∙ ap (λ (l : Stock). stock_after l entry.ask entry.answer) before.left_is ∙ sym (stock_of-with_entry entry s) in
+    let was = before.room in let free = before.free in let same : left.free ≡ (stock_of here).free = ap (λ (l : Stock). l.free) before.left_is in
+    let is : new ≡ stock_of (with_entry entry here) = after ∙ ap (λ (l : Stock). stock_after l entry.ask entry.answer) before.left_is ∙ sym (stock_of-with_entry entry here) in
     record {
       left_is = is;
-      answers = answered_more entry s before.answers (answer ∙ ap (λ (l : Stock). answer_of s.pages l entry.ask) before.left_is);
-      free = let P : Stock → Type 0 = λ l. l.free ≤ s.frames in subst P is (let Q : Stock → Type 0 = λ l. l.free ≤ s.frames in subst Q (sym after) (omega (arith, free_after left entry.ask entry.answer)));
+      answers = answered_more entry here before.answers (answer ∙ ap (λ (l : Stock). answer_of here.pages l entry.ask) before.left_is);
+      free = let P : Stock → Type 0 = λ l. l.free ≤ here.frames in subst P is (let Q : Stock → Type 0 = λ l. l.free ≤ here.frames in subst Q (sym after) (omega (arith, free_after left entry.ask entry.answer)));
       most = omega (arith, size);
       room = omega arith;
       made = before.made;

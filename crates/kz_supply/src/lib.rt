@@ -1,7 +1,6 @@
 //! The supply of frames and pages, and what one zone sees of it.
 #![tactic(auto)]
 
-mod laws;
 mod pages;
 mod ready;
 mod solo;
@@ -9,9 +8,12 @@ mod stock;
 mod supply;
 #[cfg(test)]
 mod tests;
+mod thin;
+mod thin_pages;
 
-pub use laws::whole_supplies_can_answer;
 pub use pages::{Denied, Grant, Pages, Want};
 pub use ready::{ReadyBase, ReadyPages};
 pub use solo::{SoloBase, SoloPages};
 pub use supply::Supply;
+pub use thin::ThinSupply;
+pub use thin_pages::{ThinBase, ThinPages};

@@ -58,8 +58,8 @@ impl<'a> SoloPages<'a> {
 }
 
 impl Pages for SoloPages<'_> {
-    ghost use Rattle.kz_supply.specs.Solo.{can_give, can_place};
-    ghost use Rattle.kz_supply.specs.Supply.{backs_left, grants_left};
+    ghost use Rattle.std.specs.Prelude.{nat_lt};
+    ghost use Rattle.kz_supply.specs.Supply.{room_left, backs_left, grants_left};
     ghost use Rattle.kz_supply.specs.Uses.{exchanges_of, base_of};
 
     type Base = SoloBase;
@@ -68,9 +68,9 @@ impl Pages for SoloPages<'_> {
 
     ghost exchanges = { exchanges_of };
 
-    ghost can_chunk = { λ s. can_place s.start s.params s.supply.now };
+    ghost can_chunk = { λ s. nat_lt 0 (room_left s.supply.now) };
 
-    ghost can_frames = { λ s. can_give s.start s.params s.supply.now };
+    ghost can_frames = { λ s. nat_lt 0 (room_left s.supply.now) };
 
     ghost backs = { λ s. backs_left s.params.pages s.supply.now };
 

@@ -83,7 +83,7 @@ impl Stock {
         ensures left { self.new ≡ record self.old { left = stock_after self.old.left (AskFrames pages) (frames_answer result) } }
         ensures zero { IfOk result (λ frames. frames ≡ zero_frames pages) }
     {
-        let free = self.free.len() as u32 + self.unmade;
+        let free = self.free.len() as u32;
         if free < pages {
             return Err(Denied::NoFrames { free });
         }

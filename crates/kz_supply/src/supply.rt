@@ -1,68 +1,47 @@
-//! The supply: free frames, and a cursor for each submap.
-ghost use Rattle.std.specs.Prelude.{◌≡◌, ◌*◌, ◌<◌, ◌≤◌, [], length, min, IfOk};
+//! The supply.
+ghost use Rattle.std.specs.Prelude.{◌≡◌, ◌<◌, ◌≤◌, [], length, IfOk};
 ghost use Rattle.kz_model.specs.declared.supply.Ask.TheVariants.{Chunk as AskChunk, Frames as AskFrames, Back};
 ghost use Rattle.kz_model.specs.declared.supply.Answer.TheVariants.{Taken};
-ghost use Rattle.kz_model.specs.Supply.{answer_of, pages_left};
+ghost use Rattle.kz_model.specs.Supply.{answer_of};
 ghost use Rattle.kz_frame.specs.Frames.{zero_frames};
 ghost use Rattle.kz_supply.specs.Exchange.{chunk_answer, frames_answer};
-ghost use Rattle.kz_supply.specs.Supply.{AreAnswered, HasMade, stock_of, frames_out, with_entry};
+ghost use Rattle.kz_supply.specs.Supply.{AreAnswered, stock_of, frames_out, with_entry};
 
-use crate::pages::{answer_to_chunk, answer_to_frames};
-use crate::stock::Stock;
-use crate::{Denied, Grant};
+use crate::{Denied, Grant, ThinSupply};
 use kz_frame::Frames;
-use kz_model::{Answer, Ask, Items, SupplyEntry};
+use kz_model::SupplyEntry;
 use std::alloc::{AllocError, Global};
 use std::marker::Model;
 
 /// Frames that move between zones, the pages of five submaps, and a log of all asks with their answers.
 ///
-/// It takes all its memory when it is made.
+/// It takes all its memory when it is made. As many frames are made as any asks can have out.
 #[derive(Drop)]
 pub struct Supply {
-    stock: Stock,
-    log: Vec<SupplyEntry>,
-    room: u32,
+    thin: ThinSupply,
 }
 
 impl Model for Supply {
-    ghost use Rattle.std.specs.Prelude.{◌-◌, vec_capacity};
-    ghost use Rattle.kz_supply.specs.Supply.{Supply as Seen, IsKept};
+    ghost use Rattle.kz_supply.specs.Supply.{Supply as Seen};
+    ghost use Rattle.kz_supply.specs.Thin.{IsMadeWhole};
 
     ghost Value = { Seen };
 
-    ghost view = { λ s. record { frames = s.stock.frames; made = s.stock.frames - s.stock.unmade; pages = s.stock.pages; room = s.room; log = s.log.items } };
+    ghost view = { λ s. s.thin.counted };
 
-    ghost invariant = { λ s. IsKept s.stock.left s.stock.unmade (vec_capacity s.log) (record { frames = s.stock.frames; made = s.stock.frames - s.stock.unmade; pages = s.stock.pages; room = s.room; log = s.log.items }) };
+    ghost invariant = { λ s. IsMadeWhole s.thin };
 }
 
 impl Supply {
     /// A supply of so many free frames and so many pages in each submap, with room for so many entries in its log.
     ///
-    /// An entry takes at most eight frames, so memory is taken for at most eight frames an entry: they are enough for any asks.
+    /// An entry takes at most eight frames, so memory is taken for at most eight frames an entry.
     pub fn new(alloc: Global, frames: u32, pages: u32, log_room: u32) -> Result<Supply, AllocError>
-        ensures { IfOk result (λ supply. supply ≡ record { frames = frames; made = min frames (8 * log_room); pages = pages; room = log_room; log = [] }) }
+        ensures { IfOk result (λ supply. supply ≡ record { frames = frames; pages = pages; room = log_room; log = [] }) }
     {
-        Supply::with_made(alloc, frames, log_room.saturating_mul(8), pages, log_room)
-    }
-
-    /// A supply like that of [`Supply::new`], for a caller who knows how many of its frames can be out at once: memory is taken for so many, and the others are only counted.
-    pub fn with_made(
-        alloc: Global,
-        frames: u32,
-        made: u32,
-        pages: u32,
-        log_room: u32,
-    ) -> Result<Supply, AllocError>
-        ensures { IfOk result (λ supply. supply ≡ record { frames = frames; made = min frames made; pages = pages; room = log_room; log = [] }) }
-    {
-        let stock = Stock::new(alloc, frames, frames.min(made), pages)?;
-        let log = Vec::with_capacity(alloc, log_room as usize)?;
-        Ok(Supply {
-            stock,
-            log,
-            room: log_room,
-        })
+        let made = log_room.saturating_mul(8);
+        let thin = ThinSupply::new(alloc, frames, made, pages, log_room)?;
+        Ok(Supply { thin })
     }
 
     /// Answers a zone's ask for a new chunk of so many pages of a submap.
@@ -71,17 +50,12 @@ impl Supply {
         requires submap { submap < 5 }
         requires some { 1 ≤ pages }
         requires few { pages ≤ 8 }
-        requires made { pages ≤ pages_left self.old.pages (stock_of self.old) submap → HasMade pages self.old }
         ensures answer { chunk_answer result ≡ answer_of self.old.pages (stock_of self.old) (AskChunk submap pages) }
         ensures logged { self.new ≡ with_entry (record { zone = zone; ask = AskChunk submap pages; answer = chunk_answer result }) self.old }
         ensures answers { AreAnswered self.new }
         ensures zero { IfOk result (λ grant. grant.frames ≡ zero_frames pages) }
     {
-        let granted = self.stock.chunk(submap, pages);
-        let answer = answer_to_chunk(&granted);
-        let ask = Ask::Chunk { submap, pages };
-        self.log.push_reserved(SupplyEntry { zone, ask, answer });
-        granted
+        self.thin.chunk(zone, submap, pages)
     }
 
     /// Answers a zone's ask for frames.
@@ -89,17 +63,12 @@ impl Supply {
         requires room { length self.old.log < self.old.room }
         requires some { 1 ≤ pages }
         requires few { pages ≤ 8 }
-        requires made { HasMade pages self.old }
         ensures answer { frames_answer result ≡ answer_of self.old.pages (stock_of self.old) (AskFrames pages) }
         ensures logged { self.new ≡ with_entry (record { zone = zone; ask = AskFrames pages; answer = frames_answer result }) self.old }
         ensures answers { AreAnswered self.new }
         ensures zero { IfOk result (λ frames. frames ≡ zero_frames pages) }
     {
-        let given = self.stock.frames(pages);
-        let answer = answer_to_frames(&given);
-        let ask = Ask::Frames { pages };
-        self.log.push_reserved(SupplyEntry { zone, ask, answer });
-        given
+        self.thin.frames(zone, pages)
     }
 
     /// Takes frames back from a zone.
@@ -109,12 +78,7 @@ impl Supply {
         ensures logged { self.new ≡ with_entry (record { zone = zone; ask = Back (length frames); answer = Taken }) self.old }
         ensures answers { AreAnswered self.new }
     {
-        let ask = Ask::Back {
-            pages: frames.len(),
-        };
-        let answer = Answer::Taken;
-        self.stock.back(frames);
-        self.log.push_reserved(SupplyEntry { zone, ask, answer });
+        self.thin.back(zone, frames);
     }
 
     /// All asks so far with their answers, in their order. The answers are those of the supply's table.
@@ -124,13 +88,6 @@ impl Supply {
         ensures room { length self.now.log ≤ self.now.room }
         ensures free { (stock_of self.now).free ≤ self.now.frames }
     {
-        self.log.as_slice()
-    }
-
-    /// All asks with their answers, moved out. The frames are let go.
-    pub fn into_log(self) -> Items<SupplyEntry>
-        ensures { result ≡ self.log }
-    {
-        Items::from_vec(self.log)
+        self.thin.log()
     }
 }

@@ -2,9 +2,10 @@ ghost use Rattle.std.specs.Prelude.{◌≡◌, ◌<◌, ◌≤◌, ◌++◌, [],
 ghost use Rattle.kz_model.specs.declared.bundle.Seed.TheVariants.{Plain};
 ghost use Rattle.kz_frame.specs.Frames.{zero_frames};
 ghost use Rattle.kz_supply.specs.Exchange.{ask_for_chunk, chunk_answer};
-ghost use Rattle.kz_supply.specs.Supply.{IsMadeWhole, with_exchanges};
+ghost use Rattle.kz_supply.specs.Supply.{with_exchanges};
+ghost use Rattle.kz_supply.specs.Thin.{HasMade, thin_with_exchanges};
 
-use crate::{Denied, Grant, Pages, ReadyPages, SoloPages, Supply};
+use crate::{Denied, Grant, Pages, ReadyPages, SoloPages, Supply, ThinPages, ThinSupply};
 use kz_frame::{read_over, write_over};
 use kz_model::{Answer, Ask, Seed, SupplyEntry, ZoneParams};
 use std::test::Fail;
@@ -23,6 +24,23 @@ fn params() -> ZoneParams
         depot: 1,
         seed: Seed::Plain,
         submap: 1,
+    }
+}
+
+/// The ask of that zone for a chunk.
+fn ask_for_page() -> Ask {
+    Ask::Chunk {
+        submap: 1,
+        pages: 1,
+    }
+}
+
+/// An entry of that zone.
+fn of_zone((ask, answer): (Ask, Answer)) -> SupplyEntry {
+    SupplyEntry {
+        zone: 3,
+        ask,
+        answer,
     }
 }
 
@@ -50,11 +68,24 @@ fn step(supply: &mut Supply, params: &ZoneParams) -> Result<Grant, Denied>
     requires some { 1 ≤ params.now.pages }
     requires few { params.now.pages ≤ 8 }
     requires room { length supply.old.log < supply.old.room }
-    requires made { IsMadeWhole supply.old }
     ensures zero { IfOk result (λ grant. grant.frames ≡ zero_frames params.now.pages) }
     ensures logged { supply.new ≡ with_exchanges params.now.zone ((ask_for_chunk params.now, chunk_answer result) ∷ []) supply.old }
 {
     let mut pages = SoloPages::new(supply, params);
+    visit(&mut pages)
+}
+
+/// The same with fewer frames made.
+fn thin_step(supply: &mut ThinSupply, params: &ZoneParams) -> Result<Grant, Denied>
+    requires submap { params.now.submap < 5 }
+    requires some { 1 ≤ params.now.pages }
+    requires few { params.now.pages ≤ 8 }
+    requires room { length supply.old.counted.log < supply.old.counted.room }
+    requires made { HasMade params.now.pages supply.old }
+    ensures zero { IfOk result (λ grant. grant.frames ≡ zero_frames params.now.pages) }
+    ensures logged { supply.new ≡ thin_with_exchanges params.now.zone ((ask_for_chunk params.now, chunk_answer result) ∷ []) supply.old }
+{
+    let mut pages = ThinPages::new(supply, params);
     visit(&mut pages)
 }
 
@@ -113,13 +144,23 @@ fn few_entries_of_many_frames(rt: HostRuntime) -> Result<(), Fail> {
 
 #[test]
 fn fewer_frames_are_made_than_there_are(rt: HostRuntime) -> Result<(), Fail> {
-    let mut supply = Supply::with_made(rt.alloc(), 8192, 2, 16, 8)?;
-    let Ok(grant) = supply.chunk(0, 1, 2) else {
+    let mut supply = ThinSupply::new(rt.alloc(), 8192, 1, 16, 8)?;
+    let params = params();
+    let Ok(grant) = thin_step(&mut supply, &params) else {
         return Err(Fail::from("no chunk"));
     };
-    supply.back(0, grant.frames);
-    let given = supply.frames(0, 2).map(|frames| frames.len());
-    assert_eq!(rt; given, Ok(2));
+    supply.back(3, grant.frames);
+    let given = supply.frames(3, 1).map(|frames| frames.len());
+    assert_eq!(rt; given, Ok(1));
+    let entries = [
+        (ask_for_page(), Answer::Base { page: 0 }),
+        (Ask::Back { pages: 1 }, Answer::Taken),
+        (Ask::Frames { pages: 1 }, Answer::Given),
+    ];
+    assert_eq!(rt;
+        supply.into_log().as_slice(),
+        entries.map(of_zone).as_slice()
+    );
     Ok(())
 }
 
@@ -137,22 +178,13 @@ fn a_zone_alone_leaves_its_entries(rt: HostRuntime) -> Result<(), Fail> {
     pages.back(grant.frames);
     let given = pages.frames().map(|frames| frames.len());
     assert_eq!(rt; given, Ok(1));
-    let chunk = Ask::Chunk {
-        submap: 1,
-        pages: 1,
-    };
     let entries = [
-        (chunk, Answer::Base { page: 0 }),
-        (chunk, Answer::NoFrames { free: 0 }),
+        (ask_for_page(), Answer::Base { page: 0 }),
+        (ask_for_page(), Answer::NoFrames { free: 0 }),
         (Ask::Back { pages: 1 }, Answer::Taken),
         (Ask::Frames { pages: 1 }, Answer::Given),
     ];
-    let entries = entries.map(|(ask, answer)| SupplyEntry {
-        zone: 3,
-        ask,
-        answer,
-    });
-    assert_eq!(rt; supply.log(), entries.as_slice());
+    assert_eq!(rt; supply.log(), entries.map(of_zone).as_slice());
     Ok(())
 }
 

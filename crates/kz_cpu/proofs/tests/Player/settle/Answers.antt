@@ -5,4 +5,4 @@ pub invariant_of-self : goal.invariant_of-self
 invariant_of-self c =
     let i = c.self.inside in
     let s = c.settle.ensures in
-    (played_settled i.cpu c.settle.new.self i.book c.settle.new.book i.supply i.params i.left s.elsewhere s.visits s.recent s.keeps c.self.invariant.0, c.self.invariant.1)
+    played_settled i.cpu c.settle.new.self i.book c.settle.new.book i.supply i.params i.left s.elsewhere s.visits s.recent s.keeps c.self.invariant

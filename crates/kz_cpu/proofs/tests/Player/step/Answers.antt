@@ -1,11 +1,7 @@
-use Rattle.std.proofs.Common.{◌≡◌, ◌+◌, ◌-◌, ◌<◌, ℕ, Bool, true, nat_lt, length, ap, sym, ◌∙◌, subst, arith}
+use Rattle.std.proofs.Common.{◌≡◌, ◌+◌, ◌-◌, ℕ, length, ap, sym, ◌∙◌, subst, arith}
 use Rattle.kz_model.specs.declared.record.ZoneParams.{ZoneParams}
 use Rattle.kz_supply.specs.Solo.{Start}
-use Rattle.kz_supply.specs.Supply.{Supply, IsMadeWhole, grants_left, room_left}
-use Rattle.kz_supply.specs.declared.pages.Want.{Want}
-use Rattle.kz_supply.specs.declared.pages.Want.TheVariants as want
-use Rattle.kz_supply.proofs.Grants.{whole_gives, whole_places}
-use Rattle.kz_zone.specs.Growth.{CanAnswer}
+use Rattle.kz_supply.specs.Supply.{Supply, grants_left}
 use Rattle.kz_cpu.specs.Cpu.{Cpu}
 use Rattle.kz_cpu.specs.Playing.{IsPlaying}
 use Rattle.kz_cpu.proofs.Played.{IsBookAfter, played_late, played_visit}
@@ -15,7 +11,7 @@ pub invariant_of-self : goal.invariant_of-self
 invariant_of-self c =
     let i = c.self.inside in
     let e = c.in-Some.ensures in
-    (played_late i.cpu c.local.new.self i.book i.supply i.params i.left (i.left - 1) c.args.step.now (omega arith) e.elsewhere e.recent e.needs e.has c.self.invariant.0, c.self.invariant.1)
+    played_late i.cpu c.local.new.self i.book i.supply i.params i.left (i.left - 1) c.args.step.now (omega arith) e.elsewhere e.recent e.needs e.has c.self.invariant
 
 -- the grants that are left, by the zone's parameters
 abbrev grants_by : ZoneParams → Supply → ℕ
@@ -28,7 +24,7 @@ invariant_of-self-2 c =
     let old = c.local.new.self in
     let pages = c.new-pages.result in
     let now = c.slow.new.pages in
-    let h : IsPlaying old i.book i.supply i.params i.left = subst (λ (cpu : Cpu). IsPlaying cpu i.book i.supply i.params i.left) (sym c.in_default.ensures.none) c.self.invariant.0 in
+    let h : IsPlaying old i.book i.supply i.params i.left = subst (λ (cpu : Cpu). IsPlaying cpu i.book i.supply i.params i.left) (sym c.in_default.ensures.none) c.self.invariant in
     let b : IsBookAfter old c.slow.new.self i.book c.slow.new.book c.args.step.now c.slow.result s.keeps.0 = record {
       room = s.room;
       visits = s.visits;
@@ -43,20 +39,4 @@ invariant_of-self-2 c =
     let grants : grants_by i.params now.supply.now + length c.slow.new.book.zone.chunks ≡ grants_by i.params i.supply + length i.book.zone.chunks =
     ap (λ p. grants_by p now.supply.now + length c.slow.new.book.zone.chunks) (sym (s.params ∙ of_zone)) ∙ s.grants
     ∙ ap (λ p. grants_by p pages.supply.now + length i.book.zone.chunks) of_zone ∙ ap (λ (u : Supply). grants_by i.params u + length i.book.zone.chunks) same in
-    let whole : IsMadeWhole now.supply.now = subst (λ (st : Start). IsMadeWhole st.supply) (sym s.base) (subst IsMadeWhole (sym same) c.self.invariant.1) in
-    (played_visit old c.slow.new.self i.book c.slow.new.book i.supply now.supply.now i.params i.left (i.left - 1) c.args.step.now c.slow.result s.keeps.0 (omega arith) s.elsewhere b log grants h, whole)
-
--- any ask can be answered where both can
-able : (w : Want) (chunk frames : Bool) → chunk ≡ true → frames ≡ true → CanAnswer w chunk frames
-able want.Nothing chunk frames can_chunk can_frames = tt
-able want.Chunk chunk frames can_chunk can_frames = can_chunk
-able want.Frames chunk frames can_chunk can_frames = can_frames
-
-pub slow-requires-clause-answers : goal.slow-requires-clause-answers
-slow-requires-clause-answers c =
-    let pages = c.new-pages.result in
-    let supply = pages.supply.now in
-    let whole : IsMadeWhole supply = subst IsMadeWhole (sym c.new-pages.ensures.supply) c.self.invariant.1 in
-    let left : 0 < room_left supply = omega (arith, ap room_left c.new-pages.ensures.supply, c.self.invariant.0.log, c.log.ensures.log, ap (λ l. length l) c.log.ensures.log, c.if-log-ge50.false) in
-    let room : nat_lt 0 (room_left supply) ≡ true = grind arith in
-    able _ _ _ (whole_places pages.start pages.params supply whole ∙ room) (whole_gives pages.start pages.params supply whole ∙ room)
+    played_visit old c.slow.new.self i.book c.slow.new.book i.supply now.supply.now i.params i.left (i.left - 1) c.args.step.now c.slow.result s.keeps.0 (omega arith) s.elsewhere b log grants h

@@ -2,7 +2,7 @@ use Rattle.std.proofs.Common.{◌≡◌, ◌≤◌, All, length, map, min, [], a
 use Rattle.std.specs.List.{range_with_len}
 use Rattle.kz_model.specs.declared.record.Room.{Room}
 use Rattle.kz_model.specs.declared.bundle.TraceStep.{TraceStep}
-use Rattle.kz_supply.specs.Supply.{Supply}
+use Rattle.kz_supply.specs.Thin.{ThinSupply}
 use Rattle.kz_cpu.specs.Cpu.{opened_cpu}
 use Rattle.kz_zone.specs.Room.{IsFit}
 use Rattle.kz_model.specs.Replies.{ReplySheet}
@@ -62,7 +62,7 @@ returns c =
     (c.in_ok-cpus_of.ensures ∙ ap₂ (λ (l : List Room) names. map (λ cpu. opened_cpu cpu l names) (range_with_len 0 b.cpus)) (c.deref-5.ensures.value ∙ c.limit_rooms-rooms.ensures) c.len-names.ensures)
     (subst (λ (l : List Room). AreOpened l c.in_ok-books_of.field-0.items) (c.deref-6.ensures.value ∙ c.limit_rooms-rooms.ensures) c.in_ok-books_of.ensures)
     c.limit_rooms-rooms.ensures
-    (c.in_ok-with_made.ensures ∙ ap₂ (λ n m. let s : Supply = record { frames = b.frames; made = min b.frames m; pages = b.pages; room = n; log = [] } in s) entries made)
+    (c.in_ok-new.ensures ∙ ap₂ (λ n m. let s : ThinSupply = record { counted = record { frames = b.frames; pages = b.pages; room = n; log = [] }; made = min b.frames m } in s) entries made)
     (c.in_ok-replies_of.ensures ∙ ap (λ (traces : List (List TraceStep)). map (λ trace. let r : ReplySheet = record { room = length trace; items = [] } in r) traces) c.as_slice.ensures)
     refl
-    (subst (λ (l : List Room). IsBlankFor l b.cpus c.in_ok-new.field-0) (c.deref-7.ensures.value ∙ c.limit_rooms-rooms.ensures) c.in_ok-new.ensures)
+    (subst (λ (l : List Room). IsBlankFor l b.cpus c.in_ok-new-2.field-0) (c.deref-7.ensures.value ∙ c.limit_rooms-rooms.ensures) c.in_ok-new-2.ensures)

@@ -1,5 +1,5 @@
 use Rattle.kz_supply.proofs.Grants.{frames_made}
-use Rattle.kz_supply.proofs.solo.SoloPagesPages.frames.Goals as goal
+use Rattle.kz_supply.proofs.thin_pages.ThinPagesPages.frames.Goals as goal
 
 pub frames-requires-clause-made : goal.frames-requires-clause-made
 frames-requires-clause-made c =
