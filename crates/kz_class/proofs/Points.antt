@@ -4,8 +4,8 @@ use Rattle.std.specs.List.Sorted.{IsStrictlyIncreasing, IsPartitionedBy, IsParti
 use Rattle.std.proofs.lemmas.Bool.{cases_eq}
 use Rattle.std.proofs.lemmas.Bool.Decides.{nat_tests}
 use Rattle.std.proofs.lemmas.List.Kept.{AllPairs-from_increasing}
-use Rattle.kz_model.specs.Class.{class_of, IsTable}
-use Rattle.kz_model.proofs.Classes.{first_is, none_is, none_above_last}
+use Rattle.kz_model.specs.Types.Class.{class_of, IsTable}
+use Rattle.kz_class.proofs.Classes.{first_is, none_is, none_above_last}
 
 -- classes that rise are divided by each size
 pub divided : (sizes : List ℕ) (size : ℕ) → IsStrictlyIncreasing sizes → IsPartitionedBy (λ element. nat_lt element size) sizes

@@ -1,6 +1,6 @@
 //! The pages of a chunk.
 ghost use Rattle.std.specs.Prelude.{◌≡◌, ◌<◌, ◌≤◌};
-ghost use Rattle.kz_model.specs.Class.{is_chunk, pages_of};
+ghost use Rattle.kz_model.specs.Types.Class.{is_chunk, pages_of};
 
 pub(crate) const PAGE: u32 = 4096;
 

@@ -1,6 +1,6 @@
 //! A table of size classes.
 ghost use Rattle.std.specs.Prelude.{◌≡◌, ◌-◌, ◌<◌, ◌≤◌, ◌↔◌, length, IsNone, IfSome, slice_index};
-ghost use Rattle.kz_model.specs.Class.{class_of, geometry_of, kalloc_sizes, IsFitGeometry, IsTable};
+ghost use Rattle.kz_model.specs.Types.Class.{class_of, geometry_of, kalloc_sizes, IsFitGeometry, IsTable};
 ghost use Rattle.std.specs.List.Sorted.{IsPartitionPoint, IsStrictlyIncreasing};
 
 use crate::pages::{PAGE, least_pages};
@@ -16,7 +16,7 @@ pub struct ClassTable<const N: usize> {
 // Clauses see the sizes of the classes.
 impl<const N: usize> Model for ClassTable<N> {
     ghost use Rattle.std.specs.Prelude.{List, ℕ};
-    ghost use Rattle.kz_model.specs.Class.{IsTable};
+    ghost use Rattle.kz_model.specs.Types.Class.{IsTable};
 
     ghost Value = { List ℕ };
 

@@ -15,9 +15,9 @@ maps_alike f g P same (x ∷ xs) all =
 -- how items are meant beside long ones, and that an item finds its own among so many
 pub record Meaning (Long Item Meant : Type 0) : Type 1 where
   pub meant : List Long → Item → Meant
-  pub IsWithin : ℕ → Item → Type 0
-  pub meant_more : (longs more : List Long) (item : Item) → IsWithin (length longs) item → meant (longs ++ more) item ≡ meant longs item
-  pub within_more : (few many : ℕ) (item : Item) → few ≤ many → IsWithin few item → IsWithin many item
+  pub HasItsBytes : ℕ → Item → Type 0
+  pub meant_more : (longs more : List Long) (item : Item) → HasItsBytes (length longs) item → meant (longs ++ more) item ≡ meant longs item
+  pub within_more : (few many : ℕ) (item : Item) → few ≤ many → HasItsBytes few item → HasItsBytes many item
 
 -- these long ones, with more behind them
 abbrev pub GrowsFrom : {Long : Type 0} → List Long → List Long → Type 0
@@ -25,11 +25,11 @@ GrowsFrom {Long} old new = (more : List Long) × (new ≡ old ++ more)
 
 module _ {Long Item Meant : Type 0} (m : Meaning Long Item Meant) where
   abbrev pub AreWithin : List Long → List Item → Type 0
-  AreWithin longs items = All (m.IsWithin (length longs)) items
+  AreWithin longs items = All (m.HasItsBytes (length longs)) items
 
   -- the items before mean what they meant
   pub items_stay : (longs more : List Long) (items : List Item) → AreWithin longs items → map (m.meant (longs ++ more)) items ≡ map (m.meant longs) items
-  items_stay longs more items all = maps_alike (m.meant (longs ++ more)) (m.meant longs) (m.IsWithin (length longs)) (λ item within. m.meant_more longs more item within) items all
+  items_stay longs more items all = maps_alike (m.meant (longs ++ more)) (m.meant longs) (m.HasItsBytes (length longs)) (λ item within. m.meant_more longs more item within) items all
 
   pub items_stay_within : (longs more : List Long) (items : List Item) → AreWithin longs items → AreWithin (longs ++ more) items
   items_stay_within longs more items all =
@@ -37,12 +37,12 @@ module _ {Long Item Meant : Type 0} (m : Meaning Long Item Meant) where
       (let e : length (longs ++ more) ≡ length longs + length more = length-append longs more in omega (arith, e)) (all k d lt)
 
   -- one more item behind them
-  pub one_more_within : (longs more : List Long) (items : List Item) (item : Item) → AreWithin longs items → m.IsWithin (length (longs ++ more)) item →
+  pub one_more_within : (longs more : List Long) (items : List Item) (item : Item) → AreWithin longs items → m.HasItsBytes (length (longs ++ more)) item →
       AreWithin (longs ++ more) (items ++ item ∷ [])
   one_more_within longs more items item all within =
-      All-append (m.IsWithin (length (longs ++ more))) items (item ∷ []) (items_stay_within longs more items all) (only within)
+      All-append (m.HasItsBytes (length (longs ++ more))) items (item ∷ []) (items_stay_within longs more items all) (only within)
     where
-      only : m.IsWithin (length (longs ++ more)) item → All (m.IsWithin (length (longs ++ more))) (item ∷ [])
+      only : m.HasItsBytes (length (longs ++ more)) item → All (m.HasItsBytes (length (longs ++ more))) (item ∷ [])
       only within zero d lt = within
       only within (suc k) d lt = absurd (omega (arith, lt))
 
@@ -62,9 +62,9 @@ module _ {Long Item Meant : Type 0} (m : Meaning Long Item Meant) where
       (λ told. ap (map (m.meant (old ++ grows.0))) pushed ∙ one_more_meant old grows.0 before item meaning all told) e
 
   pub pushed_within : (old new : List Long) (before after : List Item) (item : Item) → GrowsFrom old new → AreWithin old before →
-      m.IsWithin (length new) item → after ≡ before ++ item ∷ [] → AreWithin new after
+      m.HasItsBytes (length new) item → after ≡ before ++ item ∷ [] → AreWithin new after
   pushed_within old new before after item grows all within pushed =
-      let P : List Long → Type 0 = λ longs. m.IsWithin (length longs) item → AreWithin longs after in
+      let P : List Long → Type 0 = λ longs. m.HasItsBytes (length longs) item → AreWithin longs after in
       let Q : List Item → Type 0 = λ items. AreWithin (old ++ grows.0) items in
       subst P (sym grows.1) (λ told. subst Q (sym pushed) (one_more_within old grows.0 before item all told)) within
 

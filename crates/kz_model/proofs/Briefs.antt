@@ -2,11 +2,11 @@
 use Rattle.std.proofs.Common.{◌≡◌, ℕ, ◌≤◌, List, ◌++◌, length, refl, ap, arith}
 use Rattle.std.proofs.lemmas.List.{get_or_append_left}
 use Rattle.std.specs.Prelude.{[]}
-use Rattle.kz_model.specs.declared.replies.BriefReply.{BriefReply}
-use Rattle.kz_model.specs.declared.replies.BriefReply.TheVariants as brief
+use Rattle.kz_model.specs.declared.store.replies.BriefReply.{BriefReply}
+use Rattle.kz_model.specs.declared.store.replies.BriefReply.TheVariants as brief
 use Rattle.kz_model.specs.declared.step.Reply.{Reply}
 use Rattle.kz_model.specs.declared.step.Reply.TheVariants as reply
-use Rattle.kz_model.specs.Replies.{reply_meant, HasBytes}
+use Rattle.kz_model.specs.Store.Replies.{reply_meant, HasBytes}
 use Rattle.kz_model.proofs.Beside.{Meaning}
 
 pub meant_more : (pieces more : List (List ℕ)) (r : BriefReply) → HasBytes (length pieces) r → reply_meant (pieces ++ more) r ≡ reply_meant pieces r
@@ -40,4 +40,4 @@ within_more few many (brief.NoSpace left) le has = tt
 within_more few many (brief.NoFrames free) le has = tt
 
 abbrev pub replies_beside : Meaning (List ℕ) BriefReply Reply
-replies_beside = record { meant = reply_meant; IsWithin = HasBytes; meant_more = meant_more; within_more = within_more }
+replies_beside = record { meant = reply_meant; HasItsBytes = HasBytes; meant_more = meant_more; within_more = within_more }

@@ -1,7 +1,7 @@
 -- The table of the classes, computed from the definitions.
 use Rattle.std.proofs.Common.{◌≡◌, ℕ, [], ◌∷◌, None, Some, map, refl}
 use Rattle.kz_model.specs.declared.record.Geometry.{Geometry}
-use Rattle.kz_model.specs.Class.{class_of, geometry_of, kalloc_sizes}
+use Rattle.kz_model.specs.Types.Class.{class_of, geometry_of, kalloc_sizes}
 
 abbrev row : ℕ → ℕ → ℕ → Geometry
 row element pages count = record { element = element; count = count; pages = pages }

@@ -8,8 +8,8 @@ use Rattle.kz_model.specs.declared.record.Layout.{Layout}
 use Rattle.kz_model.specs.declared.layout.LayoutCause.{LayoutCause}
 use Rattle.kz_model.specs.declared.layout.LayoutCause.TheVariants.{SameName, UnknownType, ForwardUse, Empty, TooLarge}
 use Rattle.kz_model.specs.declared.layout.LayoutFault.{LayoutFault}
-use Rattle.kz_model.specs.Cover.{is_data_only}
-use Rattle.kz_model.specs.Layouts.{Types, Inside, no_fields, fields_from, one_field, then_do, layouts_of, whole, found_at, types_from, all_layouts, with_earlier}
+use Rattle.kz_model.specs.Types.Cover.{is_data_only}
+use Rattle.kz_model.specs.Types.Layouts.{Types, Inside, no_fields, fields_from, one_field, then_do, layouts_of, whole, found_at, types_from, all_layouts, with_earlier}
 use Rattle.kz_model.proofs.Unions.{inner_of-union}
 
 abbrev field : Kind → List ℕ → Field

@@ -5,8 +5,8 @@ use Rattle.kz_model.specs.declared.bundle.TypeDecl.{TypeDecl}
 use Rattle.kz_model.specs.declared.record.Layout.{Layout}
 use Rattle.kz_model.specs.declared.layout.LayoutCause.{LayoutCause}
 use Rattle.kz_model.specs.declared.layout.LayoutFault.{LayoutFault}
-use Rattle.kz_model.specs.Cover.{Covered, layout_of}
-use Rattle.kz_model.specs.Layouts.{Types, then_do, found_at, type_cover, types_from, with_earlier, all_layouts, layouts_of, names_of}
+use Rattle.kz_model.specs.Types.Cover.{Covered, layout_of}
+use Rattle.kz_model.specs.Types.Layouts.{Types, then_do, found_at, type_cover, types_from, with_earlier, all_layouts, layouts_of, names_of}
 
 -- so many declarations are covered, where all are
 abbrev IsLong : ℕ → Result (List Covered) LayoutFault → Type 0

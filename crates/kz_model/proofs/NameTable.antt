@@ -1,7 +1,7 @@
 -- Names that are kept as texts beside types.
 use Rattle.std.proofs.Common.{◌≡◌, ℕ, zero, suc, List, [], ◌∷◌, ◌++◌, length, slice_index_or, refl, ap, arith}
 use Rattle.kz_model.specs.declared.bundle.NameRow.{NameRow}
-use Rattle.kz_model.specs.NameTable.{no_row, rows_meant}
+use Rattle.kz_model.specs.Store.NameTable.{no_row, rows_meant}
 
 pub length-rows : (names : List (List ℕ)) (types : List ℕ) → length types ≡ length names → length (rows_meant names types) ≡ length names
 length-rows [] [] same = refl

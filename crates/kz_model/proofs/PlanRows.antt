@@ -4,7 +4,7 @@ use Rattle.kz_model.specs.declared.bundle.Seed.TheVariants.{Plain}
 use Rattle.kz_model.specs.declared.record.Geometry.{Geometry}
 use Rattle.kz_model.specs.declared.record.Layout.{Layout}
 use Rattle.kz_model.specs.declared.record.ZoneRow.{ZoneRow}
-use Rattle.kz_model.specs.Plan.{all_classes, class_at, shape_at, classes_in_use, signatures, shuffled, plan_of}
+use Rattle.kz_model.specs.Types.Plan.{all_classes, class_at, shape_at, classes_in_use, signatures, shuffled, plan_of}
 
 abbrev layout : ℕ → List ℕ → Layout
 layout size letters = record { size = size; align = 8; letters = letters }

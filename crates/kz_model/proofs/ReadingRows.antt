@@ -1,17 +1,17 @@
 -- Texts and their first faults, computed from the definitions.
-use Rattle.std.proofs.Common.{◌≡◌, ℕ, List, [], ◌∷◌, ◌++◌, codes, refl, Result, Ok, Err, Option, Some, None}
+use Rattle.std.proofs.Common.{◌≡◌, ℕ, List, [], ◌∷◌, ◌++◌, map, codes, refl, Result, Ok, Err, Option, Some, None}
 use Rattle.kz_model.specs.declared.grammar.Cause.{Cause}
 use Rattle.kz_model.specs.declared.grammar.Cause.TheVariants.{BadLine, BadNumber, OutOfRange, SameName, UnknownType, ForwardUse, Empty, TooLarge, BudgetShort, UnknownName, NameOfTwoCpus, NameOfTwoTypes, GiveToSelf, RoundsDiffer, BadOrder, Truncated, Trailing}
 use Rattle.kz_model.specs.declared.grammar.Refusal.{Refusal}
-use Rattle.kz_model.specs.Form.{form_of}
-use Rattle.kz_model.specs.Stages.{read}
-use Rattle.kz_model.specs.Plan.{all_classes, class_at}
+use Rattle.kz_model.specs.Grammar.Form.{form_of}
+use Rattle.kz_model.specs.Grammar.Stages.{read}
+use Rattle.kz_model.specs.Types.Plan.{all_classes, class_at}
 use Rattle.kz_model.specs.declared.bundle.Bundle.{Bundle}
 use Rattle.kz_model.specs.declared.bundle.Seed.TheVariants.{Number}
 use Rattle.kz_model.specs.declared.bundle.Kind.TheVariants.{Ptr, Bytes}
-use Rattle.kz_model.specs.Steps.{Alloc, Write, Give, Read, Flush}
-use Rattle.kz_model.specs.Form.{Line, Machine, SeedOf, Cpus, Frames, Pages, Budget, Magazine, Depot, Declares, Opens, Does, Break, Orders, Turns, Ends}
-use Rattle.kz_model.specs.Spelling.{bundle_lines}
+use Rattle.kz_model.specs.Grammar.Steps.{Alloc, Write, Give, Read, Flush}
+use Rattle.kz_model.specs.Grammar.Form.{Line, Machine, SeedOf, Cpus, Frames, Pages, Budget, Magazine, Depot, Declares, Opens, Does, Break, Orders, Turns, Ends}
+use Rattle.kz_model.specs.Grammar.Spelling.{bundle_lines}
 
 abbrev header : List ℕ
 header = codes "machine 1\nseed plain\ncpus 1\nframes 8\npages 16\nbudget 2\nmagazine 2\ndepot 1\n"
@@ -26,137 +26,69 @@ abbrev fault : {A : Type 0} → Result A Refusal → Option (ℕ × Cause)
 fault (Ok t) = None
 fault (Err r) = Some (r.line, r.cause)
 
-pub whole : fault (read (base ++ codes "a x proc\nf x\nend\n")) ≡ None
-unfolding all_classes class_at
-whole = refl
+-- texts, each with its first fault, if it has one
+abbrev Row : Type 0
+Row = List ℕ × Option (ℕ × Cause)
 
-pub without_end : fault (read (base ++ codes "a x proc\nf x\nf x\n")) ≡ Some (14, Truncated)
-unfolding all_classes class_at
-without_end = refl
+abbrev AreFaults : List Row → Type 0
+AreFaults rows = map (λ (row : Row). fault (read row.0)) rows ≡ map (λ (row : Row). row.1) rows
 
-pub empty : fault (read ([])) ≡ Some (1, Truncated)
+-- the form of lines
+pub form_faults : AreFaults (
+    (base ++ codes "a x proc\nf x\nend\n", None) ∷
+    (base ++ codes "a x proc\nf x\nf x\n", Some (14, Truncated)) ∷
+    ([], Some (1, Truncated)) ∷
+    (base ++ codes "end\n\n", Some (12, Trailing)) ∷
+    (codes "machine 01\nseed plain\ncpus 1\nframes 8\npages 16\nbudget 2\nmagazine 2\ndepot 1\n", Some (1, BadNumber)) ∷
+    (codes "machine 0\nseed plain\ncpus 1\nframes 8\npages 16\nbudget 2\nmagazine 2\ndepot 1\n", Some (1, OutOfRange)) ∷
+    (codes "machine 1\nseed plain\ncpus 17\nframes 8\npages 16\nbudget 2\nmagazine 2\ndepot 1\n", Some (3, OutOfRange)) ∷
+    (codes "machine 1\nseed plain\ncpus 1\nframes 18446744073709551616\npages 16\nbudget 2\nmagazine 2\ndepot 1\n", Some (4, BadNumber)) ∷
+    (codes "machine 1\nseed plain\ncpus 1\nframes 8\npages  16\nbudget 2\nmagazine 2\ndepot 1\n", Some (5, BadLine)) ∷
+    (codes "machine 1" ++ 13 ∷ 10 ∷ [], Some (1, BadNumber)) ∷
+    (header ++ codes "type Proc { ptr a }\ncpu 0\nend\n", Some (9, BadLine)) ∷
+    (header ++ codes "type p { bytes 0 a }\ncpu 0\nend\n", Some (9, OutOfRange)) ∷
+    (base ++ codes "a x proc\nr x 0 33\nend\n", Some (12, OutOfRange)) ∷
+    (base ++ codes "a x proc\nr x 9000 zz\nend\n", Some (12, BadNumber)) ∷
+    (base ++ codes "a x proc\nw x 0 f\nend\n", Some (12, BadLine)) ∷
+    (base ++ codes "cpu 0\nend\n", Some (11, BadLine)) ∷
+    (base ++ codes "a x Proc\nend\n", Some (11, BadLine)) ∷
+    (base ++ codes "order\norder\nend\n", Some (12, BadNumber)) ∷
+    [])
 unfolding all_classes class_at
-empty = refl
+form_faults = refl
 
-pub one_more_byte : fault (read (base ++ codes "end\n\n")) ≡ Some (12, Trailing)
+-- types
+pub types_faults : AreFaults (
+    (header ++ codes "type p { }\ncpu 0\nend\n", Some (9, Empty)) ∷
+    (header ++ codes "type p { ptr a; ptr a }\ncpu 0\nend\n", Some (9, SameName)) ∷
+    (header ++ codes "type p { struct q a }\ncpu 0\nend\n", Some (9, UnknownType)) ∷
+    (header ++ codes "type p { struct p a }\ncpu 0\nend\n", Some (9, ForwardUse)) ∷
+    (header ++ codes "type p { bytes 8192 a[2] }\ncpu 0\nend\n", Some (9, TooLarge 16384)) ∷
+    (codes "machine 1\nseed plain\ncpus 1\nframes 8\npages 16\nbudget 1\nmagazine 2\ndepot 1\n" ++ codes "type proc { ptr next; u32 pid }\ntype task { ptr a; ptr b; ptr c }\ncpu 0\nend\n", Some (6, BudgetShort 2)) ∷
+    [])
 unfolding all_classes class_at
-one_more_byte = refl
+types_faults = refl
 
-pub order_too_long : fault (read (base ++ codes "a x proc\norder\n0\n0\nend\n")) ≡ Some (14, BadOrder)
+-- names
+pub names_faults : AreFaults (
+    (base ++ codes "a x q\nend\n", Some (11, UnknownType)) ∷
+    (base ++ codes "f x\nend\n", Some (11, UnknownName)) ∷
+    (two_cpus ++ codes "a x proc\ncpu 1\na x proc\nend\n", Some (13, NameOfTwoCpus)) ∷
+    (two_cpus ++ codes "a x proc\ng x 0\ncpu 1\nend\n", Some (12, GiveToSelf)) ∷
+    (header ++ codes "type p { ptr a }\ntype q { u8 a }\ncpu 0\na x p\nz x q\nend\n", Some (13, NameOfTwoTypes)) ∷
+    (two_cpus ++ codes "f x\ncpu 1\na x proc\nend\n", None) ∷
+    [])
 unfolding all_classes class_at
-order_too_long = refl
+names_faults = refl
 
-pub order_fits : fault (read (base ++ codes "a x proc\norder\n0\nend\n")) ≡ None
+-- rounds and the order
+pub order_faults : AreFaults (
+    (base ++ codes "a x proc\norder\n0\n0\nend\n", Some (14, BadOrder)) ∷
+    (base ++ codes "a x proc\norder\n0\nend\n", None) ∷
+    (two_cpus ++ codes "--\ncpu 1\nend\n", Some (12, RoundsDiffer)) ∷
+    [])
 unfolding all_classes class_at
-order_fits = refl
-
-pub machine_01 : fault (read (codes "machine 01\nseed plain\ncpus 1\nframes 8\npages 16\nbudget 2\nmagazine 2\ndepot 1\n")) ≡ Some (1, BadNumber)
-unfolding all_classes class_at
-machine_01 = refl
-
-pub machine_0 : fault (read (codes "machine 0\nseed plain\ncpus 1\nframes 8\npages 16\nbudget 2\nmagazine 2\ndepot 1\n")) ≡ Some (1, OutOfRange)
-unfolding all_classes class_at
-machine_0 = refl
-
-pub cpus_17 : fault (read (codes "machine 1\nseed plain\ncpus 17\nframes 8\npages 16\nbudget 2\nmagazine 2\ndepot 1\n")) ≡ Some (3, OutOfRange)
-unfolding all_classes class_at
-cpus_17 = refl
-
-pub frames_big : fault (read (codes "machine 1\nseed plain\ncpus 1\nframes 18446744073709551616\npages 16\nbudget 2\nmagazine 2\ndepot 1\n")) ≡ Some (4, BadNumber)
-unfolding all_classes class_at
-frames_big = refl
-
-pub two_spaces : fault (read (codes "machine 1\nseed plain\ncpus 1\nframes 8\npages  16\nbudget 2\nmagazine 2\ndepot 1\n")) ≡ Some (5, BadLine)
-unfolding all_classes class_at
-two_spaces = refl
-
-pub return_byte : fault (read (codes "machine 1" ++ 13 ∷ 10 ∷ [])) ≡ Some (1, BadNumber)
-unfolding all_classes class_at
-return_byte = refl
-
-pub upper_case : fault (read (header ++ codes "type Proc { ptr a }\ncpu 0\nend\n")) ≡ Some (9, BadLine)
-unfolding all_classes class_at
-upper_case = refl
-
-pub no_field : fault (read (header ++ codes "type p { }\ncpu 0\nend\n")) ≡ Some (9, Empty)
-unfolding all_classes class_at
-no_field = refl
-
-pub same_field : fault (read (header ++ codes "type p { ptr a; ptr a }\ncpu 0\nend\n")) ≡ Some (9, SameName)
-unfolding all_classes class_at
-same_field = refl
-
-pub unknown_field : fault (read (header ++ codes "type p { struct q a }\ncpu 0\nend\n")) ≡ Some (9, UnknownType)
-unfolding all_classes class_at
-unknown_field = refl
-
-pub own_field : fault (read (header ++ codes "type p { struct p a }\ncpu 0\nend\n")) ≡ Some (9, ForwardUse)
-unfolding all_classes class_at
-own_field = refl
-
-pub large : fault (read (header ++ codes "type p { bytes 8192 a[2] }\ncpu 0\nend\n")) ≡ Some (9, TooLarge 16384)
-unfolding all_classes class_at
-large = refl
-
-pub bytes_0 : fault (read (header ++ codes "type p { bytes 0 a }\ncpu 0\nend\n")) ≡ Some (9, OutOfRange)
-unfolding all_classes class_at
-bytes_0 = refl
-
-pub unknown_type : fault (read (base ++ codes "a x q\nend\n")) ≡ Some (11, UnknownType)
-unfolding all_classes class_at
-unknown_type = refl
-
-pub unknown_name : fault (read (base ++ codes "f x\nend\n")) ≡ Some (11, UnknownName)
-unfolding all_classes class_at
-unknown_name = refl
-
-pub read_33 : fault (read (base ++ codes "a x proc\nr x 0 33\nend\n")) ≡ Some (12, OutOfRange)
-unfolding all_classes class_at
-read_33 = refl
-
-pub read_9000_zz : fault (read (base ++ codes "a x proc\nr x 9000 zz\nend\n")) ≡ Some (12, BadNumber)
-unfolding all_classes class_at
-read_9000_zz = refl
-
-pub odd_hex : fault (read (base ++ codes "a x proc\nw x 0 f\nend\n")) ≡ Some (12, BadLine)
-unfolding all_classes class_at
-odd_hex = refl
-
-pub second_cpu_0 : fault (read (base ++ codes "cpu 0\nend\n")) ≡ Some (11, BadLine)
-unfolding all_classes class_at
-second_cpu_0 = refl
-
-pub upper_type : fault (read (base ++ codes "a x Proc\nend\n")) ≡ Some (11, BadLine)
-unfolding all_classes class_at
-upper_type = refl
-
-pub second_order : fault (read (base ++ codes "order\norder\nend\n")) ≡ Some (12, BadNumber)
-unfolding all_classes class_at
-second_order = refl
-
-pub rounds_differ : fault (read (two_cpus ++ codes "--\ncpu 1\nend\n")) ≡ Some (12, RoundsDiffer)
-unfolding all_classes class_at
-rounds_differ = refl
-
-pub two_cpus_name : fault (read (two_cpus ++ codes "a x proc\ncpu 1\na x proc\nend\n")) ≡ Some (13, NameOfTwoCpus)
-unfolding all_classes class_at
-two_cpus_name = refl
-
-pub give_to_self : fault (read (two_cpus ++ codes "a x proc\ng x 0\ncpu 1\nend\n")) ≡ Some (12, GiveToSelf)
-unfolding all_classes class_at
-give_to_self = refl
-
-pub two_types : fault (read (header ++ codes "type p { ptr a }\ntype q { u8 a }\ncpu 0\na x p\nz x q\nend\n")) ≡ Some (13, NameOfTwoTypes)
-unfolding all_classes class_at
-two_types = refl
-
-pub used_before_bound : fault (read (two_cpus ++ codes "f x\ncpu 1\na x proc\nend\n")) ≡ None
-unfolding all_classes class_at
-used_before_bound = refl
-
-pub budget_short : fault (read (codes "machine 1\nseed plain\ncpus 1\nframes 8\npages 16\nbudget 1\nmagazine 2\ndepot 1\n" ++ codes "type proc { ptr next; u32 pid }\ntype task { ptr a; ptr b; ptr c }\ncpu 0\nend\n")) ≡ Some (6, BudgetShort 2)
-unfolding all_classes class_at
-budget_short = refl
+order_faults = refl
 
 -- unions: eight may be open at one place, and the form of a type with one is computed
 pub nine_unions : fault (form_of (header ++ codes "type p { union { union { union { union { union { union { union { union { union { u8 a } a } a } a } a } a } a } a } a } a }\ncpu 0\nend\n")) ≡ Some (9, BadLine)

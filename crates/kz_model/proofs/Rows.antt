@@ -9,8 +9,8 @@ use Rattle.kz_model.specs.declared.bundle.Seed.TheVariants.{Plain, Number}
 use Rattle.kz_model.specs.declared.record.ZoneParams.{ZoneParams}
 use Rattle.kz_model.specs.declared.supply.Answer.{Answer}
 use Rattle.kz_model.specs.declared.supply.Answer.TheVariants.{Base, Given, Taken}
-use Rattle.kz_model.specs.Alone.{alone}
-use Rattle.kz_model.specs.Words.{word}
+use Rattle.kz_model.specs.Zone.Alone.{alone}
+use Rattle.kz_model.specs.Zone.Words.{word}
 
 abbrev params : ℕ → ZoneParams
 params depot = record { zone = 0; element = 16; count = 256; pages = 1; cpus = 1; magazine = 2; depot = depot; seed = Plain; submap = 4 }

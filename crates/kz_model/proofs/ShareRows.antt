@@ -1,6 +1,6 @@
 -- Worked rows of the division, computed from its definition.
 use Rattle.std.proofs.Common.{◌≡◌, ℕ, [], ◌∷◌, true, nat_lt, length, refl}
-use Rattle.kz_model.specs.Share.{share}
+use Rattle.kz_model.specs.Types.Share.{share}
 
 pub greater_count_first : share (5 ∷ 1 ∷ []) 3 ≡ 2 ∷ 1 ∷ []
 greater_count_first = refl

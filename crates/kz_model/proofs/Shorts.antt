@@ -6,14 +6,14 @@ use Rattle.std.proofs.lemmas.List.{get_or_append_left}
 use Rattle.std.proofs.lemmas.List.Elements.{All-map}
 use Rattle.kz_model.specs.declared.bundle.Act.TheVariants as act
 use Rattle.kz_model.specs.declared.bundle.TraceStep.{TraceStep}
-use Rattle.kz_model.specs.declared.short.ShortAct.{ShortAct}
-use Rattle.kz_model.specs.declared.short.ShortAct.TheVariants as short
-use Rattle.kz_model.specs.declared.short.ShortStep.{ShortStep}
-use Rattle.kz_model.specs.Traces.{act_meant, step_meant, IsWithin, renumbered, renumbered_short, renumbered_kept, renumbered_step}
+use Rattle.kz_model.specs.declared.store.short.ShortAct.{ShortAct}
+use Rattle.kz_model.specs.declared.store.short.ShortAct.TheVariants as short
+use Rattle.kz_model.specs.declared.store.short.ShortStep.{ShortStep}
+use Rattle.kz_model.specs.Store.Traces.{act_meant, step_meant, HasItsBytes, renumbered, renumbered_short, renumbered_kept, renumbered_step}
 use Rattle.kz_model.specs.declared.bundle.Act.{Act}
 use Rattle.kz_model.proofs.Beside.{Meaning}
 
-pub meant_more : (pieces more : List (List ℕ)) (a : ShortAct) → IsWithin (length pieces) a → act_meant (pieces ++ more) a ≡ act_meant pieces a
+pub meant_more : (pieces more : List (List ℕ)) (a : ShortAct) → HasItsBytes (length pieces) a → act_meant (pieces ++ more) a ≡ act_meant pieces a
 meant_more pieces more (short.Alloc name of) within = refl
 meant_more pieces more (short.AllocZero name of) within = refl
 meant_more pieces more (short.Free name of) within = refl
@@ -24,7 +24,7 @@ meant_more pieces more (short.Write name off piece) within = ap (λ bytes. act.W
 meant_more pieces more (short.Flush of) within = refl
 meant_more pieces more (short.Trim of) within = refl
 
-pub within_more : (few many : ℕ) (a : ShortAct) → few ≤ many → IsWithin few a → IsWithin many a
+pub within_more : (few many : ℕ) (a : ShortAct) → few ≤ many → HasItsBytes few a → HasItsBytes many a
 within_more few many (short.Alloc name of) le within = tt
 within_more few many (short.AllocZero name of) le within = tt
 within_more few many (short.Free name of) le within = tt
@@ -39,13 +39,13 @@ within_more few many (short.Trim of) le within = tt
 abbrev pub steps_beside : Meaning (List ℕ) ShortStep TraceStep
 steps_beside = record {
   meant = step_meant;
-  IsWithin = λ pieces step. IsWithin pieces step.act;
+  HasItsBytes = λ pieces step. HasItsBytes pieces step.act;
   meant_more = λ pieces more step within. ap (λ (act : Act). record { line = step.line; round = step.round; act = act }) (meant_more pieces more step.act within);
   within_more = λ few many step. within_more few many step.act;
 }
 
 abbrev pub AreWithin : List (List ℕ) → List ShortStep → Type 0
-AreWithin pieces steps = All (λ step. IsWithin (length pieces) step.act) steps
+AreWithin pieces steps = All (λ step. HasItsBytes (length pieces) step.act) steps
 
 pub on_err : {A E : Type 0} (r : Result A E) (P : Type 0) → P → OnErr r P
 on_err (Ok a) P p = tt
@@ -81,7 +81,7 @@ renumbered-meant pieces names types (step ∷ steps) =
     ap (λ (a : Act). record { line = step.line; round = step.round; act = a } ∷ rest) (act_renumbered pieces names types step.act)
     ∙ ap (λ (others : List TraceStep). renumbered_step names types (step_meant pieces step) ∷ others) (renumbered-meant pieces names types steps)
 
-within_renumbered : (few : ℕ) (names types : List ℕ) (a : ShortAct) → IsWithin few a → IsWithin few (renumbered_short names types a)
+within_renumbered : (few : ℕ) (names types : List ℕ) (a : ShortAct) → HasItsBytes few a → HasItsBytes few (renumbered_short names types a)
 within_renumbered few names types (short.Alloc name of) h = tt
 within_renumbered few names types (short.AllocZero name of) h = tt
 within_renumbered few names types (short.Free name None) h = tt
@@ -95,5 +95,5 @@ within_renumbered few names types (short.Trim of) h = tt
 
 pub all_renumbered : (pieces : List (List ℕ)) (names types : List ℕ) (steps : List ShortStep) → AreWithin pieces steps → AreWithin pieces (map (renumbered_kept names types) steps)
 all_renumbered pieces names types steps h =
-    All-map (λ (step : ShortStep). IsWithin (length pieces) step.act) (renumbered_kept names types) steps
+    All-map (λ (step : ShortStep). HasItsBytes (length pieces) step.act) (renumbered_kept names types) steps
     (λ k d lt. within_renumbered (length pieces) names types (slice_index_or steps k d).act (h k d lt))

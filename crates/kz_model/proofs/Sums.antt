@@ -1,6 +1,9 @@
 -- Sums over the numbers below one.
-use Rattle.std.proofs.Common.{◌≡◌, ◌≢◌, ◌<◌, ◌≤◌, ℕ, zero, suc, ◌+◌, ◌==◌, true, false, refl, ap, subst, arith}
-use Rattle.kz_model.specs.Amounts.{sum_below}
+use Rattle.std.proofs.Common.{◌≡◌, ◌≢◌, ◌<◌, ◌≤◌, ℕ, zero, suc, ◌+◌, ◌==◌, true, false, map, sum, sum_by, refl, ap, sym, ◌∙◌, subst, arith}
+use Rattle.std.specs.List.{range_with_len}
+use Rattle.std.proofs.lemmas.List.Sums.{sum-map, sum_by_push}
+use Rattle.kz_model.specs.Run.Rooms.{sum_below}
+use Rattle.kz_model.proofs.TraceRounds.{range_push}
 
 pub sum_below-same : (f g : ℕ → ℕ) (n : ℕ) → ((k : ℕ) → k < n → f k ≡ g k) → sum_below f n ≡ sum_below g n
 sum_below-same f g zero same = refl
@@ -52,3 +55,17 @@ sum_below-lt f g (suc n) at lt less le =
           let ne : at ≢ n = grind arith in
           omega (arith, sum_below-lt f g n at (omega arith) less (λ k below. le k (omega arith)), le n (omega arith))
     ] refl
+
+-- the sum over a range
+pub sum_range : (f : ℕ → ℕ) (n : ℕ) → sum (map f (range_with_len 0 n)) ≡ sum_below f n
+sum_range f zero = refl
+sum_range f (suc n) =
+    let before : sum_by f (range_with_len 0 n) ≡ sum_below f n = sym (sum-map f (range_with_len 0 n)) ∙ sum_range f n in
+    let more : n + 1 ≡ suc n = omega arith in
+    let at : 0 + n ≡ n = omega arith in
+    sum-map f (range_with_len 0 (suc n))
+    ∙ ap (λ n. sum_by f (range_with_len 0 n)) (sym more)
+    ∙ ap (sum_by f) (range_push 0 n)
+    ∙ sum_by_push f (range_with_len 0 n) (0 + n)
+    ∙ ap (λ k. sum_by f (range_with_len 0 n) + f k) at
+    ∙ ap (λ m. m + f n) before

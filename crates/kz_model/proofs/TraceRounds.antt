@@ -8,9 +8,9 @@ use Rattle.std.proofs.lemmas.List.Sums.{get_or-le-sum_by}
 use Rattle.std.proofs.lemmas.List.Elements.{All-get_or, All-head, All-tail, All-weaker, All-nil, filter_map-append}
 use Rattle.kz_model.specs.declared.bundle.Bundle.{Bundle}
 use Rattle.kz_model.specs.declared.bundle.TraceStep.{TraceStep}
-use Rattle.kz_model.specs.Journal.{trace_of, lines_of_round}
-use Rattle.kz_model.specs.Turns.{is_of_round}
-use Rattle.kz_model.specs.Valid.{IsStepWithin, IsValid}
+use Rattle.kz_model.specs.Run.Journal.{trace_of, lines_of_round}
+use Rattle.kz_model.specs.Grammar.Turns.{is_of_round}
+use Rattle.kz_model.specs.Grammar.Valid.{IsStepWithin, IsValid}
 
 -- ---- ranges
 

@@ -7,7 +7,7 @@ use Rattle.kz_model.specs.declared.bundle.Kind.TheViews.{the_lemmas}
 use Rattle.kz_model.specs.declared.bundle.Kind.TheBlock.{hidden-the_row-Field-0, items_hidden-the_row-Field-0}
 use Rattle.kz_model.specs.declared.bundle.Field.{Field}
 use Rattle.kz_model.specs.declared.layout.LayoutCause.{LayoutCause}
-use Rattle.kz_model.specs.Layouts.{IsSoundKind, AreSound, IsSoundField, Types, Inside, no_fields, inner_of, row_of, fields_from, one_field, then_do}
+use Rattle.kz_model.specs.Types.Layouts.{IsSoundKind, AreSound, IsSoundField, Types, Inside, no_fields, inner_of, row_of, fields_from, one_field, then_do}
 
 both : (first : Result Inside LayoutCause) (f g : Inside → Result Inside LayoutCause) →
     ((inside : Inside) → f inside ≡ g inside) → then_do first f ≡ then_do first g

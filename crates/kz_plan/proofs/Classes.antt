@@ -6,8 +6,8 @@ use Rattle.std.proofs.iter.Yields.{nat_range_steps}
 use Rattle.std.specs.declared.ops.Range.{Range}
 use Rattle.kz_model.specs.declared.record.Layout.{Layout}
 use Rattle.kz_model.specs.declared.record.Geometry.{Geometry}
-use Rattle.kz_model.specs.Class.{class_of, geometry_of, kalloc_sizes}
-use Rattle.kz_model.specs.Plan.{all_classes, class_at, shape_at}
+use Rattle.kz_model.specs.Types.Class.{class_of, geometry_of, kalloc_sizes}
+use Rattle.kz_model.specs.Types.Plan.{all_classes, class_at, shape_at}
 use Rattle.std.specs.Prelude.{slice_index}
 
 -- a range over all classes gives them

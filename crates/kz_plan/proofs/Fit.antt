@@ -9,16 +9,16 @@ use Rattle.std.specs.List.{enumerate_from, flat_map, range_with_len}
 use Rattle.kz_model.specs.declared.bundle.Bundle.{Bundle}
 use Rattle.kz_model.specs.declared.bundle.Seed.{Seed}
 use Rattle.kz_model.specs.declared.record.Layout.{Layout}
-use Rattle.kz_model.specs.Class.{kalloc_sizes, IsFitGeometry}
-use Rattle.kz_model.specs.Plan.{Group, Deal, shape_at, shuffled, signatures, classes_in_use, data_classes, groups_from, groups_of, deals_from, deals_of, parts_of, general_count, zone_among, bucket_row, bucket_rows, data_row, rows_among}
-use Rattle.kz_model.specs.Planned.{IsFitRow, IsFitPlan, PlansAreFit}
-use Rattle.kz_model.specs.Share.{share}
-use Rattle.kz_model.specs.ShareLaws.{AreWithin}
-use Rattle.kz_model.specs.Valid.{layouts_in, plan_in, IsValid}
-use Rattle.kz_model.specs.Words.{word}
-use Rattle.kz_model.proofs.Classes.{classes_fit, table_from_test}
+use Rattle.kz_model.specs.Types.Class.{kalloc_sizes, IsFitGeometry}
+use Rattle.kz_model.specs.Types.Plan.{Group, Deal, shape_at, shuffled, signatures, classes_in_use, data_classes, groups_from, groups_of, deals_from, deals_of, parts_of, general_count, zone_among, bucket_row, bucket_rows, data_row, rows_among}
+use Rattle.kz_model.specs.Types.Planned.{IsFitRow, IsFitPlan, PlansAreFit}
+use Rattle.kz_model.specs.Types.Share.{share}
+use Rattle.kz_plan.specs.ShareLaws.{AreWithin}
+use Rattle.kz_model.specs.Grammar.Valid.{layouts_in, plan_in, IsValid}
+use Rattle.kz_model.specs.Zone.Words.{word}
+use Rattle.kz_class.proofs.Classes.{classes_fit, table_from_test}
 use Rattle.kz_model.proofs.LaidOut.{layouts_of-length}
-use Rattle.kz_model.proofs.SharesExist.{shares_are_within}
+use Rattle.kz_plan.proofs.SharesExist.{shares_are_within}
 use Rattle.kz_plan.specs.Homes.{AreInRow, AreZones, HasZone}
 use Rattle.kz_plan.specs.Parts.{counts_of, AreParts}
 use Rattle.kz_plan.proofs.Plans.{classes_in_use-below, data_classes-below, data_classes-few, groups_of-are, groups_of-length, counts-are, parts-of, parts-are, zones-are, types-there, zones-below}

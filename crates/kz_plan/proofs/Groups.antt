@@ -4,8 +4,8 @@ use Rattle.std.proofs.lemmas.List.{length-map}
 use Rattle.std.specs.List.{filter, list_any}
 use Rattle.kz_model.specs.declared.bundle.Seed.{Seed}
 use Rattle.kz_model.specs.declared.record.Layout.{Layout}
-use Rattle.kz_model.specs.Plan.{Signature, Group, is_general, signatures, shuffled, groups_from, groups_of}
-use Rattle.kz_plan.specs.Shown.{texts}
+use Rattle.kz_model.specs.Types.Plan.{Signature, Group, is_general, signatures, shuffled, groups_from, groups_of}
+use Rattle.kz_model.specs.Grammar.Tokens.{texts}
 use Rattle.kz_plan.proofs.Shuffles.{map-shuffled, length-shuffled}
 use Rattle.kz_plan.proofs.Written.{written}
 use Rattle.kz_plan.proofs.Classes.{classes_from, classes_from-all, classes_from-next, classes_from-end}

@@ -3,8 +3,8 @@ use Rattle.std.proofs.Common.{◌≡◌, ℕ, ◌+◌, ◌==◌, List, Option, N
 use Rattle.std.specs.List.{find, position}
 use Rattle.std.specs.Option.{IsSomeAnd, option_map, option_map_or}
 use Rattle.kz_model.specs.declared.record.Layout.{Layout}
-use Rattle.kz_model.specs.Layouts.{place_of}
-use Rattle.kz_model.specs.Plan.{Deal, class_at, bucket_of, general_zone, data_zone}
+use Rattle.kz_model.specs.Types.Layouts.{place_of}
+use Rattle.kz_model.specs.Types.Plan.{Deal, class_at, bucket_of, general_zone, data_zone}
 use Rattle.kz_plan.specs.Homes.{HasBucket, HasDataZone}
 
 abbrev deal_at : List Deal → ℕ → Option Deal

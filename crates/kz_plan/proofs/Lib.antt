@@ -11,3 +11,6 @@ pub mod Order
 pub mod Presence
 pub mod Plans
 pub mod Fit
+pub mod Shares
+pub mod SharesGrow
+pub mod SharesExist

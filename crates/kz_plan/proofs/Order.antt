@@ -13,8 +13,8 @@ use Rattle.std.specs.Str.{bytes_eq}
 use Rattle.std.specs.declared.cmp.Ordering.{Ordering}
 use Rattle.std.specs.declared.cmp.Ordering.TheVariants.{Less, Equal, Greater}
 use Rattle.kz_model.specs.declared.record.Layout.{Layout}
-use Rattle.kz_model.specs.Layouts.{has, is}
-use Rattle.kz_model.specs.Plan.{Signature, is_general, with_signature, signatures}
+use Rattle.kz_model.specs.Types.Layouts.{has, is}
+use Rattle.kz_model.specs.Types.Plan.{Signature, is_general, with_signature, signatures}
 use Rattle.kz_plan.specs.Shown.{AreDistinct}
 
 abbrev cmp : Signature → Signature → Ordering

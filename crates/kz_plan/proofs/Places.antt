@@ -14,9 +14,10 @@ use Rattle.std.specs.List.{position_from}
 use Rattle.std.specs.Option.{option_map, option_or}
 use Rattle.std.specs.Ordering.{nat_cmp}
 use Rattle.std.specs.Str.{bytes_eq}
-use Rattle.kz_model.specs.Layouts.{place_of}
-use Rattle.kz_model.specs.Plan.{Signature}
-use Rattle.kz_plan.specs.Shown.{texts, AreDistinct, AreBuckets}
+use Rattle.kz_model.specs.Types.Layouts.{place_of}
+use Rattle.kz_model.specs.Types.Plan.{Signature}
+use Rattle.kz_model.specs.Grammar.Tokens.{texts}
+use Rattle.kz_plan.specs.Shown.{AreDistinct, AreBuckets}
 
 -- whether two are the same doesn't depend on which is first
 pub same_flipped : (a b : Signature) → bytes_eq a b ≡ bytes_eq b a

@@ -15,12 +15,12 @@ use Rattle.kz_model.specs.declared.bundle.Seed.{Seed}
 use Rattle.kz_model.specs.declared.record.Layout.{Layout}
 use Rattle.kz_model.specs.declared.record.Plan.{Plan}
 use Rattle.kz_model.specs.declared.record.ZoneRow.{ZoneRow}
-use Rattle.kz_model.specs.Class.{kalloc_sizes}
-use Rattle.kz_model.specs.Cover.{is_data_only}
-use Rattle.kz_model.specs.Layouts.{is}
-use Rattle.kz_model.specs.Share.{share}
-use Rattle.kz_model.specs.ShareLaws.{AreWithin}
-use Rattle.kz_model.specs.Plan.{Signature, Group, Deal, all_classes, class_at, classes_in_use, data_classes, is_general, is_data, signatures, shuffled, groups_from, groups_of, deals_from, deals_of, parts_of, general_zone, data_zone, zone_among, rows_among, plan_of_deals, plan_of}
+use Rattle.kz_model.specs.Types.Class.{kalloc_sizes}
+use Rattle.kz_model.specs.Types.Cover.{is_data_only}
+use Rattle.kz_model.specs.Types.Layouts.{is}
+use Rattle.kz_model.specs.Types.Share.{share}
+use Rattle.kz_plan.specs.ShareLaws.{AreWithin}
+use Rattle.kz_model.specs.Types.Plan.{Signature, Group, Deal, all_classes, class_at, classes_in_use, data_classes, is_general, is_data, signatures, shuffled, groups_from, groups_of, deals_from, deals_of, parts_of, general_zone, data_zone, zone_among, rows_among, plan_of_deals, plan_of}
 use Rattle.kz_plan.specs.Shown.{AreDistinct}
 use Rattle.kz_plan.specs.Homes.{HasBucket, HasDataZone, HasZone, AreInRow, AreZones}
 use Rattle.kz_plan.specs.Parts.{counts_of, AreGroups, AreParts}

@@ -9,8 +9,8 @@ use Rattle.std.specs.List.{filter, find, list_any, position, position_from, rang
 use Rattle.std.specs.Option.{IsSomeAnd, option_map_or}
 use Rattle.kz_model.specs.declared.bundle.Seed.{Seed}
 use Rattle.kz_model.specs.declared.record.Layout.{Layout}
-use Rattle.kz_model.specs.Layouts.{has, is, place_of}
-use Rattle.kz_model.specs.Plan.{Signature, Group, Deal, signatures, shuffled, groups_from, deals_from, bucket_of, class_at, general_zone}
+use Rattle.kz_model.specs.Types.Layouts.{has, is, place_of}
+use Rattle.kz_model.specs.Types.Plan.{Signature, Group, Deal, signatures, shuffled, groups_from, deals_from, bucket_of, class_at, general_zone}
 use Rattle.kz_plan.specs.Homes.{HasBucket, AreInRow}
 use Rattle.kz_plan.proofs.ZoneRows.{in_row-order}
 use Rattle.kz_plan.proofs.Shuffles.{shuffled-permuted}

@@ -9,8 +9,8 @@ use Rattle.std.specs.List.{swap}
 use Rattle.std.specs.List.Sorted.{IsPermutation}
 use Rattle.std.specs.Prelude.{slice_index_or, slice_set}
 use Rattle.kz_model.specs.declared.bundle.Seed.{Seed}
-use Rattle.kz_model.specs.Plan.{shuffled, swapped_from}
-use Rattle.kz_model.specs.Words.{word}
+use Rattle.kz_model.specs.Types.Plan.{shuffled, swapped_from}
+use Rattle.kz_model.specs.Zone.Words.{word}
 
 map-swap : {A B : Type 0} (f : A → B) (xs : List A) (i j : ℕ) → map f (swap xs i j) ≡ swap (map f xs) i j
 map-swap f [] i j = refl

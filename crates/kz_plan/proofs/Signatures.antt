@@ -8,8 +8,8 @@ use Rattle.std.specs.Ordering.{nat_cmp, match_ordering}
 use Rattle.std.specs.declared.cmp.Ordering.{Ordering}
 use Rattle.std.specs.declared.cmp.Ordering.TheVariants.{Less, Equal, Greater}
 use Rattle.kz_model.specs.declared.record.Layout.{Layout}
-use Rattle.kz_model.specs.Plan.{Signature, is_general, with_signature}
-use Rattle.kz_plan.specs.Shown.{texts}
+use Rattle.kz_model.specs.Types.Plan.{Signature, is_general, with_signature}
+use Rattle.kz_model.specs.Grammar.Tokens.{texts}
 
 -- what is shown of one of three
 shown_choice : (o : Ordering) (a b c : List (Bor (List ℕ))) → texts (match_ordering o a b c) ≡ match_ordering o (texts a) (texts b) (texts c)

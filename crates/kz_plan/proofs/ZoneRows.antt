@@ -10,8 +10,8 @@ use Rattle.std.specs.List.{enumerate_from, flat_map, range_with_len}
 use Rattle.kz_model.specs.declared.bundle.Seed.{Seed}
 use Rattle.kz_model.specs.declared.record.Geometry.{Geometry}
 use Rattle.kz_model.specs.declared.record.ZoneRow.{ZoneRow}
-use Rattle.kz_model.specs.Plan.{Deal, types_in, bucket_row, bucket_rows, data_row, shape_at}
-use Rattle.kz_model.specs.Words.{words_after, word, rest_of}
+use Rattle.kz_model.specs.Types.Plan.{Deal, types_in, bucket_row, bucket_rows, data_row, shape_at}
+use Rattle.kz_model.specs.Zone.Words.{words_after, word, rest_of}
 use Rattle.kz_plan.specs.Homes.{AreCounts, AreInRow}
 use Rattle.kz_plan.proofs.Deals.{from_place}
 use Rattle.kz_plan.proofs.Written.{pushed}

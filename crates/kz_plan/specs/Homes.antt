@@ -3,9 +3,9 @@ use Rattle.std.specs.Prelude.{◌≡◌, ℕ, ◌+◌, ◌*◌, ◌<◌, ◌≤�
 use Rattle.std.specs.List.{find, position}
 use Rattle.std.specs.Option.{IsSomeAnd}
 use Rattle.kz_model.specs.declared.record.Layout.{Layout}
-use Rattle.kz_model.specs.Cover.{is_data_only}
-use Rattle.kz_model.specs.Layouts.{place_of}
-use Rattle.kz_model.specs.Plan.{Deal, class_at, types_in}
+use Rattle.kz_model.specs.Types.Cover.{is_data_only}
+use Rattle.kz_model.specs.Types.Layouts.{place_of}
+use Rattle.kz_model.specs.Types.Plan.{Deal, class_at, types_in}
 
 -- the type's class is dealt, and its signature is among those of its class
 abbrev pub HasBucket : List Deal → Layout → Type 0

@@ -6,8 +6,8 @@ use Rattle.std.specs.List.Sorted.{IsStrictlySortedBy, IsPermutation}
 use Rattle.std.specs.Ordering.{nat_cmp}
 use Rattle.kz_model.specs.declared.bundle.Seed.{Seed}
 use Rattle.kz_model.specs.declared.record.Layout.{Layout}
-use Rattle.kz_model.specs.Layouts.{has, is}
-use Rattle.kz_model.specs.Plan.{Signature, is_general, signatures, shuffled}
+use Rattle.kz_model.specs.Types.Layouts.{has, is}
+use Rattle.kz_model.specs.Types.Plan.{Signature, is_general, signatures, shuffled}
 
 -- the signatures of a class rise by their bytes, so each is there once
 abbrev pub SignaturesRise : Type 0
@@ -17,7 +17,8 @@ SignaturesRise = (layouts : List Layout) (class : ℕ) → IsStrictlySortedBy (s
 abbrev pub SignaturesAreThoseOfTypes : Type 0
 SignaturesAreThoseOfTypes =
     (signature : Signature) (layouts : List Layout) (class : ℕ) →
-    has signature (signatures layouts class) ≡ list_any (λ layout. is_general class layout && is signature layout.letters) layouts
+    has signature (signatures layouts class)
+    ≡ list_any (λ layout. is_general class layout && is signature layout.letters) layouts
 
 -- a shuffle only puts them into another order
 abbrev pub ShufflesKeepAll : Type 0

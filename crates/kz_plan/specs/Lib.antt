@@ -2,3 +2,5 @@ pub mod Shown
 pub mod Homes
 pub mod Parts
 pub mod Laws
+pub mod Sharing
+pub mod ShareLaws

@@ -1,6 +1,6 @@
 -- What the parts of a plan keep.
 use Rattle.std.specs.Prelude.{◌≡◌, ℕ, ◌*◌, ◌<◌, ◌≤◌, List, length, map, sum, All}
-use Rattle.kz_model.specs.Plan.{Group}
+use Rattle.kz_model.specs.Types.Plan.{Group}
 use Rattle.kz_plan.specs.Shown.{AreDistinct}
 
 -- how many signatures each class in use has

@@ -1,5 +1,5 @@
 -- What references and maps show.
-use Rattle.std.specs.Prelude.{◌≡◌, ℕ, ◌%◌, List, map}
+use Rattle.std.specs.Prelude.{◌≡◌, ℕ, ◌%◌, List}
 use Rattle.std.specs.Borrow.{Bor}
 use Rattle.std.specs.BTreeMap as tree
 use Rattle.std.specs.BTreeMap.{BTreeMap}
@@ -8,12 +8,8 @@ use Rattle.std.specs.List.{IsDistinct}
 use Rattle.std.specs.Option.{option_map}
 use Rattle.std.specs.Ordering.{nat_cmp}
 use Rattle.std.specs.Str.{bytes_eq}
-use Rattle.kz_model.specs.Layouts.{place_of}
-use Rattle.kz_model.specs.Plan.{Signature}
-
--- the bytes behind references
-abbrev pub texts : List (Bor (List ℕ)) → List Signature
-texts references = map (λ reference. reference.now) references
+use Rattle.kz_model.specs.Types.Layouts.{place_of}
+use Rattle.kz_model.specs.Types.Plan.{Signature}
 
 -- no signature is there twice
 abbrev pub AreDistinct : List Signature → Type 0
@@ -23,4 +19,5 @@ AreDistinct signatures = IsDistinct bytes_eq signatures
 abbrev pub AreBuckets : BTreeMap (Bor (List ℕ)) ℕ → ℕ → List Signature → Type 0
 AreBuckets buckets zones order =
     (signature : Signature) →
-    tree.get_by (λ key. slice_cmp nat_cmp signature key.now) buckets ≡ option_map (λ place. place % zones) (place_of signature order)
+    tree.get_by (λ key. slice_cmp nat_cmp signature key.now) buckets
+    ≡ option_map (λ place. place % zones) (place_of signature order)

@@ -1,11 +1,12 @@
 //! How signatures are dealt into the zones of their class.
 ghost use Rattle.std.specs.Prelude.{◌≡◌, ℕ, ◌+◌, ◌-◌, ◌^◌, ◌<◌, ◌≤◌, length, All, IfOk, IsSome};
 ghost use Rattle.kz_model.specs.declared.bundle.Seed.{Seed};
-ghost use Rattle.kz_model.specs.Layouts.{place_of};
-ghost use Rattle.kz_model.specs.Plan.{shuffled, groups_of, deals_from, bucket_of, shape_at};
-ghost use Rattle.kz_model.specs.Words.{words_after};
+ghost use Rattle.kz_model.specs.Types.Layouts.{place_of};
+ghost use Rattle.kz_model.specs.Types.Plan.{shuffled, groups_of, deals_from, bucket_of, shape_at};
+ghost use Rattle.kz_model.specs.Zone.Words.{words_after};
 ghost use Rattle.kz_plan.specs.Parts.{counts_of, AreGroups, AreParts};
-ghost use Rattle.kz_plan.specs.Shown.{texts, AreDistinct, AreBuckets};
+ghost use Rattle.kz_model.specs.Grammar.Tokens.{texts};
+ghost use Rattle.kz_plan.specs.Shown.{AreDistinct, AreBuckets};
 
 use crate::grouping::{CLASSES, is_in_use, shape_at, signatures};
 use kz_model::{Geometry, Layout, Seed, Words};
@@ -22,9 +23,9 @@ pub(crate) struct Group<'a> {
 
 impl<'a> Model for Group<'a> {
     ghost use Rattle.std.specs.Prelude.{◌<◌};
-    ghost use Rattle.kz_model.specs.Plan.{Group as Dealt};
+    ghost use Rattle.kz_model.specs.Types.Plan.{Group as Dealt};
     ghost use Rattle.kz_plan.specs.Parts.{counts_of, AreGroups, AreParts};
-    ghost use Rattle.kz_plan.specs.Shown.{texts};
+    ghost use Rattle.kz_model.specs.Grammar.Tokens.{texts};
 
     ghost Value = { Dealt };
 
@@ -54,14 +55,21 @@ pub(crate) struct Deal<'g, 'a> {
 
 impl<'g, 'a> Model for Deal<'g, 'a> {
     ghost use Rattle.std.specs.Prelude.{◌+◌, ◌^◌, ◌<◌};
-    ghost use Rattle.kz_model.specs.Plan.{Deal as Dealt};
+    ghost use Rattle.kz_model.specs.Types.Plan.{Deal as Dealt};
     ghost use Rattle.kz_plan.specs.Shown.{AreBuckets};
 
     ghost Value = { Dealt };
 
-    ghost view = { λ d. record { class = d.group.now.class; first = d.first; zones = d.zones; order = d.group.now.order } };
+    ghost view = { λ d. record {
+      class = d.group.now.class;
+      first = d.first;
+      zones = d.zones;
+      order =
+          d.group.now.order;
+    } };
 
-    ghost invariant = { λ d. (0 < d.zones) × (d.first + d.zones < 2 ^ 32) × AreBuckets d.buckets d.zones d.group.now.order };
+    ghost invariant = { λ d. (0 < d.zones) × (d.first + d.zones < 2 ^ 32) ×
+        AreBuckets d.buckets d.zones d.group.now.order };
 }
 
 impl<'g, 'a> Deal<'g, 'a> {
@@ -76,7 +84,8 @@ impl<'g, 'a> Deal<'g, 'a> {
         requires fits { first + zones < 2 ^ 32 }
         requires few { length group.now.order ≤ 1024 }
         requires distinct { AreDistinct group.now.order }
-        ensures { IfOk result (λ deal. deal ≡ record { class = group.now.class; first = first; zones = zones; order = group.now.order }) }
+        ensures { IfOk result (λ deal. deal
+            ≡ record { class = group.now.class; first = first; zones = zones; order = group.now.order }) }
     {
         let buckets = buckets(alloc, &group.order, zones)?;
         Ok(Deal {
@@ -120,8 +129,10 @@ impl<'g, 'a> Deal<'g, 'a> {
 
 /// Swaps each place, from the last down to 1, with one that a word draws.
 fn shuffle(order: &mut [&[u8]], words: &mut Words)
-    ensures order { (seed : Seed) → (drawn : ℕ) → words.old ≡ words_after seed 0 drawn → order.new ≡ shuffled seed drawn order.old }
-    ensures words { (seed : Seed) → (drawn : ℕ) → words.old ≡ words_after seed 0 drawn → words.new ≡ words_after seed 0 (drawn + (length order.old - 1)) }
+    ensures order { (seed : Seed) → (drawn : ℕ) → words.old ≡ words_after seed 0 drawn → order.new
+        ≡ shuffled seed drawn order.old }
+    ensures words { (seed : Seed) → (drawn : ℕ) → words.old ≡ words_after seed 0 drawn → words.new
+        ≡ words_after seed 0 (drawn + (length order.old - 1)) }
 {
     for last in (1..order.len()).rev() {
         let other = words.next() as usize % (last + 1);

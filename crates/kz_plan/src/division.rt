@@ -1,8 +1,8 @@
 //! The division of a budget of zones among classes.
 ghost use Rattle.std.specs.Prelude.{◌≡◌, ℕ, ◌+◌, ◌<◌, ◌≤◌, ◌↔◌, length, replicate, sum, All, MatchOption, IfOk, IsOkUnless};
-ghost use Rattle.kz_model.specs.Share.{share};
-ghost use Rattle.kz_model.specs.ShareLaws.{AreWithin, AreFairest};
-ghost use Rattle.kz_model.specs.Sharing.{IsInOrder, IsDivision, IsNext, AreFull};
+ghost use Rattle.kz_model.specs.Types.Share.{share};
+ghost use Rattle.kz_plan.specs.ShareLaws.{AreWithin, AreFairest};
+ghost use Rattle.kz_plan.specs.Sharing.{IsInOrder, IsDivision, IsNextClass, AreFull};
 ghost use Rattle.kz_plan.specs.declared.fault.PlanFault.TheVariants.{BudgetShort, Memory};
 
 use crate::fault::PlanFault;
@@ -15,7 +15,7 @@ fn next_class(counts: &[u32], parts: &[u32]) -> Option<usize>
     requires in_order { IsInOrder counts.now parts.now }
     ensures { MatchOption result
         (AreFull counts.now parts.now (length counts.now))
-        (λ class. IsNext counts.now parts.now (length counts.now) class) }
+        (λ class. IsNextClass counts.now parts.now (length counts.now) class) }
 {
     let mut next = None;
     for class in 0..counts.len() {

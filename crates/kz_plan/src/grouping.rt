@@ -1,9 +1,9 @@
 //! The classes in use, and the signatures of each.
 ghost use Rattle.std.specs.Prelude.{◌≡◌, ◌<◌, ◌≤◌, length, All, IfOk};
 ghost use Rattle.std.specs.List.{list_any};
-ghost use Rattle.kz_model.specs.Plan.{class_at, classes_in_use, data_classes, is_general, is_data, signatures, shape_at};
-ghost use Rattle.kz_model.specs.Cover.{is_data_only};
-ghost use Rattle.kz_plan.specs.Shown.{texts};
+ghost use Rattle.kz_model.specs.Types.Plan.{class_at, classes_in_use, data_classes, is_general, is_data, signatures, shape_at};
+ghost use Rattle.kz_model.specs.Types.Cover.{is_data_only};
+ghost use Rattle.kz_model.specs.Grammar.Tokens.{texts};
 
 use kz_class::kalloc_classes;
 use kz_model::{Geometry, Layout};

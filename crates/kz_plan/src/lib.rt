@@ -1,4 +1,11 @@
-//! The plan: how the zones of a budget are divided.
+//! The plan: which zones there are, and which types each has.
+//!
+//! It is made of the types' layouts, a budget of zones and a seed. One zone after another goes to the class that has
+//! the most signatures for a zone; sets and maps hold signatures, and no loop goes over pairs of types. A budget that
+//! is too short is refused before memory is asked for.
+//!
+//! Contract: the plan is the definition's, or the budget is short, with the number of classes in use. Laws say that no
+//! other division is fairer, that each signature is dealt once, and that a plan has a fit zone for each type.
 #![tactic(auto)]
 
 mod dealing;
@@ -7,12 +14,10 @@ mod fault;
 mod grouping;
 mod laws;
 mod planning;
-#[cfg(test)]
-mod tests;
 mod zones;
 
 pub use division::share;
 pub use fault::PlanFault;
 pub use grouping::general_classes;
-pub use laws::{plans_are_fit, signatures_are_dealt_once};
+pub use laws::{plans_are_fit, shares_are_fair, signatures_are_dealt_once};
 pub use planning::plan;

@@ -1,7 +1,7 @@
 //! The plan of some types.
 ghost use Rattle.std.specs.Prelude.{◌≡◌, ◌^◌, ◌<◌, ◌≤◌, ◌↔◌, length, sum, All, IfOk, IsOkUnless};
-ghost use Rattle.kz_model.specs.Plan.{classes_in_use, data_classes, plan_of, plan_of_deals};
-ghost use Rattle.kz_model.specs.Share.{share};
+ghost use Rattle.kz_model.specs.Types.Plan.{classes_in_use, data_classes, plan_of, plan_of_deals};
+ghost use Rattle.kz_model.specs.Types.Share.{share};
 ghost use Rattle.kz_plan.specs.Homes.{AreZones, HasZone};
 ghost use Rattle.kz_plan.specs.Parts.{counts_of, AreGroups, AreParts};
 ghost use Rattle.kz_plan.specs.declared.fault.PlanFault.TheVariants.{BudgetShort, Memory};
@@ -80,7 +80,8 @@ fn plan_within(
 pub fn plan(alloc: Global, layouts: &[Layout], budget: u32, seed: Seed) -> Result<Plan, PlanFault>
     requires few { length layouts.now ≤ 1024 }
     requires sizes { All (λ layout. layout.size ≤ 8192) layouts.now }
-    ensures short { (result ≡ Err (BudgetShort (length (classes_in_use layouts.now)))) ↔ (budget < length (classes_in_use layouts.now)) }
+    ensures short { (result ≡ Err (BudgetShort (length (classes_in_use layouts.now))))
+        ↔ (budget < length (classes_in_use layouts.now)) }
     ensures enough { length (classes_in_use layouts.now) ≤ budget → IsOkUnless result Memory }
     ensures planned { IfOk result (λ plan. plan ≡ plan_of layouts.now budget seed) }
 {

@@ -3,8 +3,8 @@ ghost use Rattle.std.specs.Prelude.{◌≡◌, ℕ, ◌+◌, ◌^◌, ◌<◌, �
 ghost use Rattle.std.specs.List.{enumerate_from, find, position};
 ghost use Rattle.std.specs.Option.{option_map};
 ghost use Rattle.kz_model.specs.declared.bundle.Seed.{Seed};
-ghost use Rattle.kz_model.specs.Plan.{bucket_rows, data_row, general_zone, rows_among, zone_among};
-ghost use Rattle.kz_model.specs.Words.{words_after};
+ghost use Rattle.kz_model.specs.Types.Plan.{bucket_rows, data_row, general_zone, rows_among, zone_among};
+ghost use Rattle.kz_model.specs.Zone.Words.{words_after};
 ghost use Rattle.kz_plan.specs.Homes.{AreCounts, AreZones, HasBucket, HasZone};
 
 use crate::dealing::Deal;
@@ -101,9 +101,11 @@ fn push_buckets(
 ) -> Result<(), AllocError>
     requires next { deal.now.first ≡ length zones.old.items }
     requires inside { deal.now.first + deal.now.zones ≤ length types.now }
-    ensures rows { (seed : Seed) → (of_type : List ℕ) → words.old ≡ words_after seed 1 deal.now.first → AreCounts types.now (length types.now) of_type
+    ensures rows { (seed : Seed) → (of_type : List ℕ) → words.old ≡ words_after seed 1 deal.now.first →
+        AreCounts types.now (length types.now) of_type
         → OnOk result (zones.new.items ≡ zones.old.items ++ bucket_rows seed of_type deal.now) }
-    ensures words { (seed : Seed) → words.old ≡ words_after seed 1 deal.now.first → OnOk result (words.new ≡ words_after seed 1 (deal.now.first + deal.now.zones)) }
+    ensures words { (seed : Seed) → words.old ≡ words_after seed 1 deal.now.first →
+        OnOk result (words.new ≡ words_after seed 1 (deal.now.first + deal.now.zones)) }
 {
     let shape = deal.shape();
     for bucket in 0..deal.zones() {
@@ -126,7 +128,8 @@ fn push_data_zones(
     requires classes { All (λ class. class < 32) classes.now }
     requires inside { length zones.old.items + length classes.now ≤ length types.now }
     ensures { (of_type : List ℕ) → AreCounts types.now (length types.now) of_type
-        → OnOk result (zones.new.items ≡ zones.old.items ++ map (data_row of_type) (enumerate_from (length zones.old.items) classes.now)) }
+        → OnOk result (zones.new.items
+        ≡ zones.old.items ++ map (data_row of_type) (enumerate_from (length zones.old.items) classes.now)) }
 {
     for class in classes {
         zones.push(ZoneRow {

@@ -2,7 +2,7 @@ use Rattle.std.proofs.Common.{sym, ◌∙◌, refl, rules, tests}
 use Rattle.std.proofs.lemmas.Iterator.{YieldsList-from_range}
 use Rattle.std.proofs.lemmas.Iterator.Adapters.{option_map_id}
 use Rattle.std.proofs.lemmas.Iterator.Search.{find_from_yields_List}
-use Rattle.kz_model.specs.Class.{is_chunk}
+use Rattle.kz_model.specs.Types.Class.{is_chunk}
 use Rattle.kz_class.proofs.pages.least_pages.Goals as goal
 
 pub returns : goal.returns

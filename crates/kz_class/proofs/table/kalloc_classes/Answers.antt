@@ -1,5 +1,5 @@
 use Rattle.std.proofs.Common.{refl, lit<}
-use Rattle.kz_model.proofs.Classes.{table_from_test}
+use Rattle.kz_class.proofs.Classes.{table_from_test}
 use Rattle.kz_class.proofs.table.kalloc_classes.Goals as goal
 
 pub new-requires : goal.new-requires

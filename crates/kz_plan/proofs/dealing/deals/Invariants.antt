@@ -1,5 +1,5 @@
 use Rattle.std.proofs.Common.{◌≡◌, ◌+◌, ◌++◌, drop, sum}
-use Rattle.kz_model.specs.Plan.{deals_from}
+use Rattle.kz_model.specs.Types.Plan.{deals_from}
 use Rattle.kz_plan.proofs.dealing.deals.Given as goal
 
 -- the zones and the deals so far, with those that are left, are all

@@ -1,7 +1,7 @@
 use Rattle.std.proofs.Common.{◌≡◌, ◌+◌, ◌-◌, ◌++◌, length, ap, sym, ◌∙◌, arith}
 use Rattle.std.proofs.lemmas.List.{append-nil}
-use Rattle.kz_model.specs.Plan.{signatures}
-use Rattle.kz_model.specs.Words.{words_after}
+use Rattle.kz_model.specs.Types.Plan.{signatures}
+use Rattle.kz_model.specs.Zone.Words.{words_after}
 use Rattle.kz_plan.proofs.Groups.{groups_left, groups_left-all, groups_left-end, groups_left-skip, groups_left-next, shuffled_texts, shuffled_words}
 use Rattle.kz_plan.proofs.Written.{pushed}
 use Rattle.kz_plan.proofs.dealing.groups.Goals.{then-is_in_use+in_ok-order+in_ok-push, else-is_in_use}

@@ -1,6 +1,6 @@
 use Rattle.std.proofs.Common.{◌≡◌, ℕ, ◌++◌}
-use Rattle.kz_model.specs.Plan.{groups_of}
-use Rattle.kz_model.specs.Words.{words_after}
+use Rattle.kz_model.specs.Types.Plan.{groups_of}
+use Rattle.kz_model.specs.Zone.Words.{words_after}
 use Rattle.kz_plan.proofs.Groups.{groups_left}
 use Rattle.kz_plan.proofs.dealing.groups.Given as goal
 

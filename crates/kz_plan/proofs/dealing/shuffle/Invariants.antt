@@ -1,7 +1,7 @@
 use Rattle.std.proofs.Common.{◌≡◌, ℕ, ◌+◌, ◌-◌, ◌<◌, length}
 use Rattle.kz_model.specs.declared.bundle.Seed.{Seed}
-use Rattle.kz_model.specs.Plan.{shuffled, swapped_from}
-use Rattle.kz_model.specs.Words.{words_after}
+use Rattle.kz_model.specs.Types.Plan.{shuffled, swapped_from}
+use Rattle.kz_model.specs.Zone.Words.{words_after}
 use Rattle.kz_plan.proofs.dealing.shuffle.Given as goal
 
 -- the swaps that are left, with the words from here on, make the whole

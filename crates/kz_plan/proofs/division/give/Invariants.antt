@@ -1,5 +1,5 @@
 use Rattle.std.proofs.Common.{◌≡◌, ◌+◌, ◌≤◌, sum}
-use Rattle.kz_model.specs.Sharing.{IsInOrder}
+use Rattle.kz_plan.specs.Sharing.{IsInOrder}
 use Rattle.kz_plan.proofs.division.give.Given as goal
 
 -- the parts stay in order, and each zone given is one more

@@ -1,10 +1,10 @@
 use Rattle.std.proofs.Common.{◌≡◌, ℕ, List, length, sum, take, drop, ◌++◌, ◌+◌, ◌-◌, sym, subst, ◌∙◌, ap, rules, ◌≤◌, arith, replicate}
-use Rattle.kz_model.specs.Share.{share}
-use Rattle.kz_model.specs.Sharing.{IsDivision}
-use Rattle.kz_model.proofs.Shares.{share-division}
-use Rattle.kz_model.proofs.SharesGrow.{sum-ones}
-use Rattle.kz_model.specs.ShareLaws.{HaveSignatures, AreWithin, AreFairest}
-use Rattle.kz_model.proofs.SharesExist.{shares_are_within, shares_are_fairest}
+use Rattle.kz_model.specs.Types.Share.{share}
+use Rattle.kz_plan.specs.Sharing.{IsDivision}
+use Rattle.kz_plan.proofs.Shares.{share-division}
+use Rattle.kz_plan.proofs.SharesGrow.{sum-ones}
+use Rattle.kz_plan.specs.ShareLaws.{HaveSignatures, AreWithin, AreFairest}
+use Rattle.kz_plan.proofs.SharesExist.{shares_are_within, shares_are_fairest}
 use Rattle.kz_plan.proofs.Written.{written}
 use Rattle.kz_plan.proofs.division.share.Goals as goal
 

@@ -3,7 +3,7 @@ use borrow.Author.Tests.{tests}
 use Rattle.std.specs.List.{list_any}
 use Rattle.std.proofs.lemmas.Iterator.{items_from_collect}
 use Rattle.std.proofs.lemmas.Iterator.Consumers.{YieldsList-from_filter, YieldsList-at}
-use Rattle.kz_model.specs.Plan.{is_data}
+use Rattle.kz_model.specs.Types.Plan.{is_data}
 use Rattle.kz_plan.proofs.Classes.{all_classes-from_range}
 use Rattle.kz_plan.proofs.grouping.data_classes.Goals as goal
 

@@ -2,7 +2,7 @@ use Rattle.std.proofs.Common.{rules, refl}
 use borrow.Author.Tests.{tests}
 use Rattle.std.specs.List.{list_any}
 use Rattle.std.proofs.lemmas.Iterator.Consumers.{count_from_yields_List, YieldsList-from_filter, YieldsList-at}
-use Rattle.kz_model.specs.Plan.{is_general}
+use Rattle.kz_model.specs.Types.Plan.{is_general}
 use Rattle.kz_plan.proofs.Classes.{all_classes-from_range}
 use Rattle.kz_plan.proofs.grouping.general_classes.Goals as goal
 

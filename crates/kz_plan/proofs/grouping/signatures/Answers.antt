@@ -1,8 +1,8 @@
 use Rattle.std.proofs.Common.{◌≡◌, ◌+◌, drop, ap, sym, ◌∙◌, arith}
 use Rattle.std.proofs.Math.ListN.{get_or}
 use Rattle.kz_model.specs.declared.record.Layout.{Layout}
-use Rattle.kz_model.specs.Plan.{is_general, with_signature}
-use Rattle.kz_plan.specs.Shown.{texts}
+use Rattle.kz_model.specs.Types.Plan.{is_general, with_signature}
+use Rattle.kz_model.specs.Grammar.Tokens.{texts}
 use Rattle.kz_plan.proofs.Signatures.{signatures_with, signatures_with-general, signatures_with-other, with_signature-texts}
 use Rattle.kz_plan.proofs.grouping.signatures.Goals.{then-is_general+in_ok-insert, else-is_general}
 use Rattle.kz_plan.proofs.grouping.signatures.Goals as goal

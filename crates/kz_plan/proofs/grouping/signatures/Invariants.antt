@@ -1,6 +1,6 @@
 use Rattle.std.proofs.Common.{◌≡◌, drop}
-use Rattle.kz_model.specs.Plan.{signatures}
-use Rattle.kz_plan.specs.Shown.{texts}
+use Rattle.kz_model.specs.Types.Plan.{signatures}
+use Rattle.kz_model.specs.Grammar.Tokens.{texts}
 use Rattle.kz_plan.proofs.Signatures.{signatures_with}
 use Rattle.kz_plan.proofs.grouping.signatures.Given as goal
 

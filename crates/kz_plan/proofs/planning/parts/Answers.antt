@@ -1,6 +1,6 @@
 use Rattle.std.proofs.Common.{List, ℕ, ◌∙◌, subst}
 use Rattle.std.proofs.lemmas.Result.{IfOk-weaker}
-use Rattle.kz_model.specs.ShareLaws.{AreWithin}
+use Rattle.kz_plan.specs.ShareLaws.{AreWithin}
 use Rattle.kz_plan.specs.Parts.{AreParts}
 use Rattle.kz_plan.proofs.Plans.{counts-are, parts-are}
 use Rattle.kz_plan.proofs.planning.parts.Goals as goal

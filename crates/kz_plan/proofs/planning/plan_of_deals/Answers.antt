@@ -1,5 +1,5 @@
 use Rattle.std.proofs.Common.{◌+◌, ◌<◌, ℕ, List, length, All, subst, sym, ◌∙◌}
-use Rattle.kz_model.specs.Plan.{data_classes}
+use Rattle.kz_model.specs.Types.Plan.{data_classes}
 use Rattle.kz_plan.proofs.Plans.{types-same, rows-plan, zones-below}
 use Rattle.kz_plan.proofs.planning.plan_of_deals.Goals as goal
 

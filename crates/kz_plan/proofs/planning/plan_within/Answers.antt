@@ -1,5 +1,5 @@
 use Rattle.std.proofs.Common.{List, length, sum, refl, ap, subst, sym, ◌∙◌, arith}
-use Rattle.kz_model.specs.Plan.{Group, groups_of}
+use Rattle.kz_model.specs.Types.Plan.{Group, groups_of}
 use Rattle.kz_plan.specs.Parts.{AreGroups, AreParts}
 use Rattle.kz_plan.proofs.Plans.{groups_of-length, groups_of-are, parts-of, dealt-same, zones-are, types-there, plan-is}
 use Rattle.kz_plan.proofs.planning.plan_within.Goals as goal

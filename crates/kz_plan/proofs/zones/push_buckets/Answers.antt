@@ -1,5 +1,5 @@
 use Rattle.std.proofs.Common.{◌≡◌, ◌+◌, length, ap, ◌∙◌, arith}
-use Rattle.kz_model.specs.Words.{rest_of, word_of, words_after}
+use Rattle.kz_model.specs.Zone.Words.{rest_of, word_of, words_after}
 use Rattle.kz_plan.proofs.ZoneRows.{bucket-pushed, longer, words-more}
 use Rattle.kz_plan.proofs.zones.push_buckets.Goals as goal
 

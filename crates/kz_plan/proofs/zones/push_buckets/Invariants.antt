@@ -1,8 +1,8 @@
 use Rattle.std.proofs.Common.{◌≡◌, ℕ, ◌+◌, ◌-◌, ◌++◌, List, length, map}
 use Rattle.std.specs.List.{range_with_len}
 use Rattle.kz_model.specs.declared.bundle.Seed.{Seed}
-use Rattle.kz_model.specs.Plan.{bucket_row, bucket_rows}
-use Rattle.kz_model.specs.Words.{words_after}
+use Rattle.kz_model.specs.Types.Plan.{bucket_row, bucket_rows}
+use Rattle.kz_model.specs.Zone.Words.{words_after}
 use Rattle.kz_plan.specs.Homes.{AreCounts}
 use Rattle.kz_plan.proofs.zones.push_buckets.Given as goal
 

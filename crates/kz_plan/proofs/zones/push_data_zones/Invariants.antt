@@ -1,6 +1,6 @@
 use Rattle.std.proofs.Common.{◌≡◌, ℕ, ◌+◌, ◌++◌, List, length, map, drop}
 use Rattle.std.specs.List.{enumerate_from}
-use Rattle.kz_model.specs.Plan.{data_row}
+use Rattle.kz_model.specs.Types.Plan.{data_row}
 use Rattle.kz_plan.specs.Homes.{AreCounts}
 use Rattle.kz_plan.proofs.zones.push_data_zones.Given as goal
 

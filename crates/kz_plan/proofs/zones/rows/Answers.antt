@@ -1,6 +1,6 @@
 use Rattle.std.proofs.Common.{◌≡◌, ◌+◌, ◌++◌, length, drop, ap, sym, ◌∙◌, subst, arith}
-use Rattle.kz_model.specs.Plan.{bucket_rows}
-use Rattle.kz_model.specs.Words.{words_after}
+use Rattle.kz_model.specs.Types.Plan.{bucket_rows}
+use Rattle.kz_model.specs.Zone.Words.{words_after}
 use Rattle.kz_plan.specs.Homes.{AreCounts, AreInRow}
 use Rattle.kz_plan.proofs.ZoneRows.{in_row-next, in_row-order, counts-whole, deal-pushed, length-bucket_rows}
 use Rattle.kz_plan.proofs.zones.rows.Goals as goal

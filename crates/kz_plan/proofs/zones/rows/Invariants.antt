@@ -1,7 +1,7 @@
 use Rattle.std.proofs.Common.{◌≡◌, ◌++◌, length, drop}
 use Rattle.std.specs.List.{flat_map}
-use Rattle.kz_model.specs.Plan.{bucket_rows}
-use Rattle.kz_model.specs.Words.{words_after}
+use Rattle.kz_model.specs.Types.Plan.{bucket_rows}
+use Rattle.kz_model.specs.Zone.Words.{words_after}
 use Rattle.kz_plan.specs.Homes.{AreInRow}
 use Rattle.kz_plan.proofs.zones.rows.Given as goal
 

@@ -1,5 +1,5 @@
 use Rattle.std.proofs.Common.{cond, ap, sym, ◌∙◌}
-use Rattle.kz_model.specs.Plan.{class_at, data_zone, general_zone}
+use Rattle.kz_model.specs.Types.Plan.{class_at, data_zone, general_zone}
 use Rattle.kz_plan.proofs.Homes.{data_some, data_place}
 use Rattle.kz_plan.proofs.zones.zone_among.Goals as goal
 

@@ -1,5 +1,5 @@
 use Rattle.std.proofs.Common.{◌≡◌, map, take}
-use Rattle.kz_model.specs.Plan.{zone_among}
+use Rattle.kz_model.specs.Types.Plan.{zone_among}
 use Rattle.kz_plan.proofs.zones.zones_of_types.Given as goal
 
 -- the zones of the types so far

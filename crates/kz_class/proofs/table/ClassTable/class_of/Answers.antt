@@ -1,5 +1,5 @@
 use Rattle.std.proofs.Common.{◌≡◌, ◌-◌, ◌<◌, ◌↔◌, ℕ, List, None, Some, IsNone, slice_index, subst, sym, arith}
-use Rattle.kz_model.specs.Class.{class_of}
+use Rattle.kz_model.specs.Types.Class.{class_of}
 use Rattle.kz_class.proofs.Points.{some_at, none_at, none_clause}
 use Rattle.kz_class.proofs.table.ClassTable.class_of.Goals as goal
 

@@ -1,6 +1,6 @@
 use Rattle.std.proofs.Common.{ℕ, Option, IsSome, slice_index, unwrap_or, subst, sym, ◌∙◌, rules}
-use Rattle.kz_model.specs.Class.{cut, IsFitGeometry}
-use Rattle.kz_model.proofs.Classes.{classes_fit}
+use Rattle.kz_model.specs.Types.Class.{cut, IsFitGeometry}
+use Rattle.kz_class.proofs.Classes.{classes_fit}
 use Rattle.kz_class.proofs.table.ClassTable.geometry.Goals as goal
 
 pub unwrap-pages-requires : goal.unwrap-pages-requires

@@ -1,0 +1,13 @@
+pub mod Ranges
+pub mod Addresses
+pub mod Renaming
+pub mod Agreement
+pub mod Amounts
+pub mod Play
+pub mod PlayedAt
+pub mod Undelayed
+pub mod Laws
+pub mod PlayLaws
+pub mod Isolation
+pub mod Reports
+pub mod Worlds

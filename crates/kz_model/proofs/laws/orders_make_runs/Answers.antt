@@ -1,5 +1,0 @@
-use Rattle.kz_model.proofs.OrderIsRun.{order_is_run}
-use Rattle.kz_model.proofs.laws.orders_make_runs.Goals as goal
-
-pub returns : goal.returns
-returns c = order_is_run

@@ -1,5 +1,0 @@
-use Rattle.kz_model.proofs.Isolated.{runs_are_isolated}
-use Rattle.kz_model.proofs.laws.runs_keep_zones_apart.Goals as goal
-
-pub returns : goal.returns
-returns c = runs_are_isolated
