@@ -6,11 +6,12 @@ use Rattle.std.proofs.lemmas.List.{take_more, take_all, length-map, get_or-map}
 use Rattle.kz_model.specs.declared.bundle.OrderLine.{OrderLine}
 use Rattle.kz_model.specs.declared.grammar.Cause.TheVariants as cause
 use Rattle.kz_model.specs.declared.grammar.Refusal.{Refusal}
-use Rattle.kz_model.specs.Form.{Section, new_section}
-use Rattle.kz_model.specs.Stages.{rounds_of, rounds_from, else_fault, fault_if, order_from, left_in, sections_of, rounds_fault, order_fault}
-use Rattle.kz_bundle.specs.declared.parts.Part.{Part}
-use Rattle.kz_bundle.specs.declared.parts.Parts.{Parts}
-use Rattle.kz_bundle.specs.Parts.{texts, section_meant, sections_meant, draft_of, AreParts}
+use Rattle.kz_model.specs.Grammar.Form.{Section, new_section}
+use Rattle.kz_model.specs.Grammar.Stages.{rounds_of, rounds_from, else_fault, fault_if, order_from, left_in, sections_of, rounds_fault, order_fault}
+use Rattle.kz_bundle.specs.declared.form.parts.Part.{Part}
+use Rattle.kz_bundle.specs.declared.form.parts.Parts.{Parts}
+use Rattle.kz_model.specs.Grammar.Tokens.{texts}
+use Rattle.kz_bundle.specs.Parts.{section_meant, sections_meant, draft_of, AreParts}
 use Rattle.kz_bundle.specs.Rounds.{IsCountable}
 
 first_none : (a b : Option Refusal) → else_fault a b ≡ None → (a ≡ None) × (b ≡ None)

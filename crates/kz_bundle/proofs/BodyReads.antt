@@ -8,9 +8,9 @@ use Rattle.kz_model.specs.declared.bundle.Kind.TheBlock.{hidden-the_row-Field-0,
 use Rattle.kz_model.specs.declared.bundle.Field.{Field}
 use Rattle.kz_model.specs.declared.grammar.Mark.{Mark}
 use Rattle.kz_model.specs.declared.grammar.Mark.TheVariants.{Fine}
-use Rattle.kz_model.specs.Tokens.{words_of, is, number_in}
-use Rattle.kz_model.specs.Body.{Next, Open, First, More, Size, Of, Label, Close, Done, Body, of_kind, kinded, closed, sized, next_word, body_of, no_body}
-use Rattle.kz_model.specs.Spelling.{spaced, numbered, label_text, kind_text, row_text, more_text, body_text, IsName, IsFrom, IsKind, AreFields, IsField}
+use Rattle.kz_model.specs.Grammar.Tokens.{tokens_of, is, number_in}
+use Rattle.kz_bundle.specs.BodyStates.{Next, Open, First, More, Size, Of, Label, Close, Done, Body, of_kind, kinded, closed, sized, next_word, body_of, no_body}
+use Rattle.kz_model.specs.Grammar.Spelling.{spaced, numbered, label_text, kind_text, row_text, more_text, body_text, IsName, IsFrom, IsKind, AreFields, IsField}
 use Rattle.kz_bundle.proofs.Choices.{all_append}
 use Rattle.kz_bundle.proofs.Splits.{is_dark, dark, word_ends, last_word}
 use Rattle.kz_bundle.proofs.NumberTexts.{number_in-decimal, decimal_run, decimal_dark}
@@ -27,10 +27,10 @@ field kind name count = record { kind = kind; name = name; count = count }
 
 -- the body after the words of a text
 abbrev pub run : Body → List ℕ → Option Body
-run b text = body_of b (words_of text)
+run b text = body_of b (tokens_of text)
 
 run_word : (b more : Body) (word rest : List ℕ) → dark word ≡ true → next_word b.next b word ≡ Some more → run b (word ++ 32 ∷ rest) ≡ run more rest
-run_word b more word rest e step = ap (body_of b) (word_ends word rest e) ∙ ap (λ o. option_map_or {U = Option Body} (λ more. body_of more (words_of rest)) o None) step
+run_word b more word rest e step = ap (body_of b) (word_ends word rest e) ∙ ap (λ o. option_map_or {U = Option Body} (λ more. body_of more (tokens_of rest)) o None) step
 
 run_last : (b more : Body) (word : List ℕ) → dark word ≡ true → next_word b.next b word ≡ Some more → run b word ≡ Some more
 run_last b more word e step = ap (body_of b) (last_word word e) ∙ ap (λ o. option_map_or {U = Option Body} (λ more. body_of more []) o None) step

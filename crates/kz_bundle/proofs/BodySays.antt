@@ -8,9 +8,10 @@ use Rattle.kz_model.specs.declared.bundle.Kind.TheVariants.{Ptr, Auth, U8, U16, 
 use Rattle.kz_model.specs.declared.bundle.Field.{Field}
 use Rattle.kz_model.specs.declared.grammar.Mark.{Mark}
 use Rattle.kz_model.specs.declared.grammar.Mark.TheVariants.{Fine}
-use Rattle.kz_model.specs.Tokens.{is, is_name, is_run, number_in}
-use Rattle.kz_model.specs.Body.{Next, Open, First, More, Size, Of, Label, Close, Done, Body, ends_with, without_last, label, with_field, labelled, of_kind, kinded, closed, sized, next_word, body_of}
-use Rattle.kz_model.specs.Spelling.{spaced, label_text, kind_text, field_text, more_fields_text, fields_text, body_text, IsName, IsFrom, IsKind, IsField}
+use Rattle.kz_model.specs.Grammar.Tokens.{is, is_name, is_run, number_in}
+use Rattle.kz_model.specs.Grammar.TypeLine.{ends_with, without_last, label}
+use Rattle.kz_bundle.specs.BodyStates.{Next, Open, First, More, Size, Of, Label, Close, Done, Body, with_field, labelled, of_kind, kinded, closed, sized, next_word, body_of}
+use Rattle.kz_model.specs.Grammar.Spelling.{spaced, label_text, kind_text, field_text, more_fields_text, fields_text, body_text, IsName, IsFrom, IsKind, IsField}
 use Rattle.kz_bundle.proofs.Choices.{left, right, found_same, none_found, chosen, only, is_same, has_last}
 use Rattle.kz_bundle.proofs.Splits.{after_spaces}
 use Rattle.kz_bundle.proofs.NumberTexts.{ranged_is}
@@ -52,25 +53,26 @@ abbrev pub AreAround : ℕ → List (List Field) → Type 0
 AreAround deep [] = Unit {0}
 AreAround deep (fields ∷ outer) = All (IsField deep) fields × AreAround (deep - 1) outer
 
-abbrev pub IsNext : ℕ → List (List Field) → List Field → Next → Type 0
-IsNext deep outer fields Open = fields ≡ []
-IsNext deep outer fields First = fields ≡ []
-IsNext deep outer fields (Label kind) = IsKind deep kind
-IsNext deep outer fields Done = outer ≡ []
-IsNext deep outer fields next = Unit {0}
+-- what is next fits these fields, and the bodies around them
+abbrev pub FitsNext : ℕ → List (List Field) → List Field → Next → Type 0
+FitsNext deep outer fields Open = fields ≡ []
+FitsNext deep outer fields First = fields ≡ []
+FitsNext deep outer fields (Label kind) = IsKind deep kind
+FitsNext deep outer fields Done = outer ≡ []
+FitsNext deep outer fields next = Unit {0}
 
 pub record IsSound (b : Body) : Type 0 where
   pub few : length b.outer ≤ 8
   pub outer : AreAround 8 b.outer
   pub fields : All (IsField (8 - length b.outer)) b.fields
-  pub next : IsNext (8 - length b.outer) b.outer b.fields b.next
+  pub next : FitsNext (8 - length b.outer) b.outer b.fields b.next
 
 -- with one word more, where the numbers are in their ranges
-abbrev Grows : List ℕ → List ℕ → Body → Type 0
-Grows text word more = more.mark ≡ Fine → (consumed more ≡ text ++ 32 ∷ word) × IsSound more
+abbrev AddsWord : List ℕ → List ℕ → Body → Type 0
+AddsWord text word more = more.mark ≡ Fine → (consumed more ≡ text ++ 32 ∷ word) × IsSound more
 
-grown : (text word : List ℕ) (a more : Body) → Some a ≡ Some more → Grows text word a → Grows text word more
-grown text word a more e grows = subst (Grows text word) (found_same a more e) grows
+adds_same : (text word : List ℕ) (a more : Body) → Some a ≡ Some more → AddsWord text word a → AddsWord text word more
+adds_same text word a more e adds = subst (AddsWord text word) (found_same a more e) adds
 
 -- ---- lists of bodies
 
@@ -126,8 +128,8 @@ fields-push (first ∷ fields) f =
 -- ---- one word more
 
 -- what follows the text of the bodies around
-grows : (outer x y word : List ℕ) → y ≡ x ++ 32 ∷ word → outer ++ y ≡ (outer ++ x) ++ 32 ∷ word
-grows outer x y word e = ap (λ (y : List ℕ). outer ++ y) e ∙ sym (append_assoc outer x (32 ∷ word))
+adds_word : (outer x y word : List ℕ) → y ≡ x ++ 32 ∷ word → outer ++ y ≡ (outer ++ x) ++ 32 ∷ word
+adds_word outer x y word e = ap (λ (y : List ℕ). outer ++ y) e ∙ sym (append_assoc outer x (32 ∷ word))
 
 module _ (outer : List (List Field)) (fields : List Field) (mark : Mark) where
   abbrev in_body : Next → Body
@@ -138,51 +140,51 @@ module _ (outer : List (List Field)) (fields : List Field) (mark : Mark) where
     after_kinds = around outer ++ (32 ∷ 123 ∷ open_fields fields)
 
     -- a word and what is next
-    to_next : (given : List ℕ) (next : Next) → word ≡ given → inside fields next ≡ 32 ∷ 123 ∷ (open_fields fields ++ 32 ∷ given) → IsNext (8 - length outer) outer fields next → Grows after_kinds word (in_body next)
+    to_next : (given : List ℕ) (next : Next) → word ≡ given → inside fields next ≡ 32 ∷ 123 ∷ (open_fields fields ++ 32 ∷ given) → FitsNext (8 - length outer) outer fields next → AddsWord after_kinds word (in_body next)
     to_next given next same text is fine = (
-      grows (around outer) (32 ∷ 123 ∷ open_fields fields) (inside fields next) word (text ∙ ap (λ (w : List ℕ). 32 ∷ 123 ∷ (open_fields fields ++ 32 ∷ w)) (sym same)),
+      adds_word (around outer) (32 ∷ 123 ∷ open_fields fields) (inside fields next) word (text ∙ ap (λ (w : List ℕ). 32 ∷ 123 ∷ (open_fields fields ++ 32 ∷ w)) (sym same)),
       record { few = few; outer = are; fields = all; next = is },
     )
 
-    opened : nat_lt (length outer) 8 ≡ true → word ≡ codes "union" → Grows after_kinds word (record { outer = outer ++ fields ∷ []; fields = []; mark = mark; next = Open })
+    opened : nat_lt (length outer) 8 ≡ true → word ≡ codes "union" → AddsWord after_kinds word (record { outer = outer ++ fields ∷ []; fields = []; mark = mark; next = Open })
     opened less same fine = (
       append-nil (around (outer ++ fields ∷ [])) ∙ around-push outer fields
-          ∙ grows (around outer) (32 ∷ 123 ∷ open_fields fields) (32 ∷ 123 ∷ (open_fields fields ++ codes " union")) word (ap (λ (w : List ℕ). 32 ∷ 123 ∷ (open_fields fields ++ 32 ∷ w)) (sym same)),
+          ∙ adds_word (around outer) (32 ∷ 123 ∷ open_fields fields) (32 ∷ 123 ∷ (open_fields fields ++ codes " union")) word (ap (λ (w : List ℕ). 32 ∷ 123 ∷ (open_fields fields ++ 32 ∷ w)) (sym same)),
       record { few = one_more (length outer) (length (outer ++ fields ∷ [])) less (length_push outer fields); outer = are_around-push 8 outer fields are all; fields = All-nil (IsField _); next = refl },
     )
       where
         one_more : (n m : ℕ) → nat_lt n 8 ≡ true → m ≡ n + 1 → m ≤ 8
         one_more n m less e = grind arith
 
-    kinded_says : (next : Next) (more : Body) → kinded (in_body next) word ≡ Some more → Grows after_kinds word more
+    kinded_says : (next : Next) (more : Body) → kinded (in_body next) word ≡ Some more → AddsWord after_kinds word more
     kinded_says next more =
-        chosen (is (codes "ptr") word) _ _ _ (λ t e. grown after_kinds word (in_body (Label Ptr)) more e (to_next (codes "ptr") (Label Ptr) (is_same (codes "ptr") word t) refl tt))
-        (λ f. chosen (is (codes "auth") word) _ _ _ (λ t e. grown after_kinds word (in_body (Label Auth)) more e (to_next (codes "auth") (Label Auth) (is_same (codes "auth") word t) refl tt))
-        (λ f. chosen (is (codes "u8") word) _ _ _ (λ t e. grown after_kinds word (in_body (Label U8)) more e (to_next (codes "u8") (Label U8) (is_same (codes "u8") word t) refl tt))
-        (λ f. chosen (is (codes "u16") word) _ _ _ (λ t e. grown after_kinds word (in_body (Label U16)) more e (to_next (codes "u16") (Label U16) (is_same (codes "u16") word t) refl tt))
-        (λ f. chosen (is (codes "u32") word) _ _ _ (λ t e. grown after_kinds word (in_body (Label U32)) more e (to_next (codes "u32") (Label U32) (is_same (codes "u32") word t) refl tt))
-        (λ f. chosen (is (codes "u64") word) _ _ _ (λ t e. grown after_kinds word (in_body (Label U64)) more e (to_next (codes "u64") (Label U64) (is_same (codes "u64") word t) refl tt))
-        (λ f. chosen (is (codes "bytes") word) _ _ _ (λ t e. grown after_kinds word (in_body Size) more e (to_next (codes "bytes") Size (is_same (codes "bytes") word t) refl tt))
-        (λ f. chosen (is (codes "struct") word) _ _ _ (λ t e. grown after_kinds word (in_body Of) more e (to_next (codes "struct") Of (is_same (codes "struct") word t) refl tt))
+        chosen (is (codes "ptr") word) _ _ _ (λ t e. adds_same after_kinds word (in_body (Label Ptr)) more e (to_next (codes "ptr") (Label Ptr) (is_same (codes "ptr") word t) refl tt))
+        (λ f. chosen (is (codes "auth") word) _ _ _ (λ t e. adds_same after_kinds word (in_body (Label Auth)) more e (to_next (codes "auth") (Label Auth) (is_same (codes "auth") word t) refl tt))
+        (λ f. chosen (is (codes "u8") word) _ _ _ (λ t e. adds_same after_kinds word (in_body (Label U8)) more e (to_next (codes "u8") (Label U8) (is_same (codes "u8") word t) refl tt))
+        (λ f. chosen (is (codes "u16") word) _ _ _ (λ t e. adds_same after_kinds word (in_body (Label U16)) more e (to_next (codes "u16") (Label U16) (is_same (codes "u16") word t) refl tt))
+        (λ f. chosen (is (codes "u32") word) _ _ _ (λ t e. adds_same after_kinds word (in_body (Label U32)) more e (to_next (codes "u32") (Label U32) (is_same (codes "u32") word t) refl tt))
+        (λ f. chosen (is (codes "u64") word) _ _ _ (λ t e. adds_same after_kinds word (in_body (Label U64)) more e (to_next (codes "u64") (Label U64) (is_same (codes "u64") word t) refl tt))
+        (λ f. chosen (is (codes "bytes") word) _ _ _ (λ t e. adds_same after_kinds word (in_body Size) more e (to_next (codes "bytes") Size (is_same (codes "bytes") word t) refl tt))
+        (λ f. chosen (is (codes "struct") word) _ _ _ (λ t e. adds_same after_kinds word (in_body Of) more e (to_next (codes "struct") Of (is_same (codes "struct") word t) refl tt))
         (λ f. only (is (codes "union") word && nat_lt (length outer) 8) _ _
-        (λ t e. grown after_kinds word (record { outer = outer ++ fields ∷ []; fields = []; mark = mark; next = Open }) more e
+        (λ t e. adds_same after_kinds word (record { outer = outer ++ fields ∷ []; fields = []; mark = mark; next = Open }) more e
         (opened (right (is (codes "union") word) (nat_lt (length outer) 8) t) (is_same (codes "union") word (left (is (codes "union") word) (nat_lt (length outer) 8) t))))))))))))
 
     -- the number of `bytes`
-    sized_says : (more : Body) → (if is_run word then Some (sized (in_body Size) (number_in 1 8192 word)) else None) ≡ Some more → Grows (around outer ++ inside fields Size) word more
+    sized_says : (more : Body) → (if is_run word then Some (sized (in_body Size) (number_in 1 8192 word)) else None) ≡ Some more → AddsWord (around outer ++ inside fields Size) word more
     sized_says more =
-        only (is_run word) _ _ (λ t e. grown (around outer ++ inside fields Size) word (sized (in_body Size) (number_in 1 8192 word)) more e (λ fine.
+        only (is_run word) _ _ (λ t e. adds_same (around outer ++ inside fields Size) word (sized (in_body Size) (number_in 1 8192 word)) more e (λ fine.
         let number = ranged_is 1 8192 word (worse_right mark (number_in 1 8192 word).1 fine) in (
-          grows (around outer) (inside fields Size) (inside fields (Label (Bytes (number_in 1 8192 word).0))) word
+          adds_word (around outer) (inside fields Size) (inside fields (Label (Bytes (number_in 1 8192 word).0))) word
               (ap (λ (w : List ℕ). 32 ∷ 123 ∷ (open_fields fields ++ (codes " bytes " ++ w))) (sym number.0) ∙ ap (λ (text : List ℕ). 32 ∷ 123 ∷ text) (sym (append_assoc (open_fields fields) (codes " bytes") (32 ∷ word)))),
           record { few = few; outer = are; fields = all; next = number.1 },
         )))
 
     -- the NAME of `struct`
-    of_says : (more : Body) → (if is_name word then of_kind (in_body Of) (Struct word) else None) ≡ Some more → Grows (around outer ++ inside fields Of) word more
+    of_says : (more : Body) → (if is_name word then of_kind (in_body Of) (Struct word) else None) ≡ Some more → AddsWord (around outer ++ inside fields Of) word more
     of_says more =
-        only (is_name word) _ _ (λ t e. grown (around outer ++ inside fields Of) word (in_body (Label (Struct word))) more e (λ fine. (
-          grows (around outer) (inside fields Of) (inside fields (Label (Struct word))) word (ap (λ (text : List ℕ). 32 ∷ 123 ∷ text) (sym (append_assoc (open_fields fields) (codes " struct") (32 ∷ word)))),
+        only (is_name word) _ _ (λ t e. adds_same (around outer ++ inside fields Of) word (in_body (Label (Struct word))) more e (λ fine. (
+          adds_word (around outer) (inside fields Of) (inside fields (Label (Struct word))) word (ap (λ (text : List ℕ). 32 ∷ 123 ∷ text) (sym (append_assoc (open_fields fields) (codes " struct") (32 ∷ word)))),
           record { few = few; outer = are; fields = all; next = t },
         )))
 
@@ -199,41 +201,41 @@ module _ (outer : List (List Field)) (fields : List Field) (mark : Mark) where
       pushed : (name : List ℕ) (count : ℕ) → IsName name × IsFrom 1 8192 count → All (IsField (8 - length outer)) (fields ++ record { kind = kind; name = name; count = count } ∷ [])
       pushed name count named = All-push (IsField (8 - length outer)) fields (record { kind = kind; name = name; count = count }) all (is, named.0, named.1)
 
-      last_says : (found : List ℕ × (ℕ × Mark)) → label word ≡ Some found → Grows before_label word (with_field (in_body (Label kind)) kind false found)
+      last_says : (found : List ℕ × (ℕ × Mark)) → label word ≡ Some found → AddsWord before_label word (with_field (in_body (Label kind)) kind false found)
       last_says found e fine =
           let says = label_says word found e (worse_right mark found.1.1 fine) in
           let f : Field = record { kind = kind; name = found.0; count = found.1.0 } in (
-            grows (around outer) (inside fields (Label kind)) (inside (fields ++ f ∷ []) Close) word
+            adds_word (around outer) (inside fields (Label kind)) (inside (fields ++ f ∷ []) Close) word
                 (ap (λ (text : List ℕ). 32 ∷ 123 ∷ text) (fields-push fields f) ∙ field_is (label_text found.0 found.1.0) ∙ ap (λ (w : List ℕ). inside fields (Label kind) ++ 32 ∷ w) (sym says.0)),
             record { few = few; outer = are; fields = pushed found.0 found.1.0 says.1; next = tt },
           )
 
-      more_says : (found : List ℕ × (ℕ × Mark)) → ends_with 59 word ≡ true → label (without_last word) ≡ Some found → Grows before_label word (with_field (in_body (Label kind)) kind true found)
+      more_says : (found : List ℕ × (ℕ × Mark)) → ends_with 59 word ≡ true → label (without_last word) ≡ Some found → AddsWord before_label word (with_field (in_body (Label kind)) kind true found)
       more_says found t e fine =
           let says = label_says (without_last word) found e (worse_right mark found.1.1 fine) in
           let f : Field = record { kind = kind; name = found.0; count = found.1.0 } in
           let text = label_text found.0 found.1.0 in
           let whole : word ≡ text ++ 59 ∷ [] = last_byte 59 word t ∙ ap (λ (front : List ℕ). front ++ 59 ∷ []) says.0 in (
-            grows (around outer) (inside fields (Label kind)) (inside (fields ++ f ∷ []) More) word
+            adds_word (around outer) (inside fields (Label kind)) (inside (fields ++ f ∷ []) More) word
                 (ap (λ (text : List ℕ). 32 ∷ 123 ∷ text) (open_fields-push fields f)
                 ∙ ap (λ (more : List ℕ). 32 ∷ 123 ∷ (open_fields fields ++ 32 ∷ more)) (append_assoc (kind_text kind ++ codes " ") text (59 ∷ []))
                 ∙ field_is (text ++ 59 ∷ []) ∙ ap (λ (w : List ℕ). inside fields (Label kind) ++ 32 ∷ w) (sym whole)),
             record { few = few; outer = are; fields = pushed found.0 found.1.0 says.1; next = tt },
           )
 
-      labelled_says : (more : Body) → labelled (in_body (Label kind)) kind word ≡ Some more → Grows before_label word more
+      labelled_says : (more : Body) → labelled (in_body (Label kind)) kind word ≡ Some more → AddsWord before_label word more
       labelled_says more =
           chosen (ends_with 59 word) _ _ _ (λ t e. by_more t (label (without_last word)) refl e) (λ f e. by_last (label word) refl e)
         where
           by_more : ends_with 59 word ≡ true → (o : Option (List ℕ × (ℕ × Mark))) → label (without_last word) ≡ o →
-              option_map_or {U = Option Body} (λ found. Some (with_field (in_body (Label kind)) kind true found)) o None ≡ Some more → Grows before_label word more
+              option_map_or {U = Option Body} (λ found. Some (with_field (in_body (Label kind)) kind true found)) o None ≡ Some more → AddsWord before_label word more
           by_more t None is e = none_found more e
-          by_more t (Some found) is e = grown before_label word (with_field (in_body (Label kind)) kind true found) more e (more_says found t is)
+          by_more t (Some found) is e = adds_same before_label word (with_field (in_body (Label kind)) kind true found) more e (more_says found t is)
 
           by_last : (o : Option (List ℕ × (ℕ × Mark))) → label word ≡ o →
-              option_map_or {U = Option Body} (λ found. Some (with_field (in_body (Label kind)) kind false found)) o None ≡ Some more → Grows before_label word more
+              option_map_or {U = Option Body} (λ found. Some (with_field (in_body (Label kind)) kind false found)) o None ≡ Some more → AddsWord before_label word more
           by_last None is e = none_found more e
-          by_last (Some found) is e = grown before_label word (with_field (in_body (Label kind)) kind false found) more e (last_says found is)
+          by_last (Some found) is e = adds_same before_label word (with_field (in_body (Label kind)) kind false found) more e (last_says found is)
 
 -- ---- the end of a body
 
@@ -246,7 +248,7 @@ union_text outer front fields =
 
 closed_inner : (before : List (List Field)) (last fields : List Field) (mark : Mark) (word : List ℕ) (next : Next) → inside fields next ≡ 32 ∷ 123 ∷ fields_text fields → word ≡ codes "}" →
     length (before ++ last ∷ []) ≤ 8 → AreAround 8 (before ++ last ∷ []) → All (IsField (8 - length (before ++ last ∷ []))) fields →
-    Grows (around (before ++ last ∷ []) ++ inside fields next) word (closed (in_body (before ++ last ∷ []) fields mark next))
+    AddsWord (around (before ++ last ∷ []) ++ inside fields next) word (closed (in_body (before ++ last ∷ []) fields mark next))
 closed_inner before last fields mark word next here same few are all =
     let long = length_push before last in
     let rest = are_around-pop 8 before last are in
@@ -258,7 +260,7 @@ closed_inner before last fields mark word next here same few are all =
     ∙ ap (λ (t : List ℕ). (t ++ (32 ∷ 123 ∷ fields_text fields)) ++ codes " }") (sym (around-push before last))
     ∙ ap (λ (t : List ℕ). (around (before ++ last ∷ []) ++ t) ++ codes " }") (sym here)
     ∙ ap (λ (w : List ℕ). (around (before ++ last ∷ []) ++ inside fields next) ++ 32 ∷ w) (sym same) in
-    subst (Grows (around (before ++ last ∷ []) ++ inside fields next) word) (sym (closed_union mark before last fields next)) (λ fine.
+    subst (AddsWord (around (before ++ last ∷ []) ++ inside fields next) word) (sym (closed_union mark before last fields next)) (λ fine.
     (text, record { few = omega (arith, long, few); outer = rest.0; fields = rest.1; next = is }))
   where
     deeper : (n m : ℕ) → m ≡ n + 1 → m ≤ 8 → 8 - n ≡ suc (8 - m)
@@ -266,14 +268,14 @@ closed_inner before last fields mark word next here same few are all =
 
 closed_says : (outer : List (List Field)) (fields : List Field) (mark : Mark) (word : List ℕ) (next : Next) → inside fields next ≡ 32 ∷ 123 ∷ fields_text fields → word ≡ codes "}" →
     length outer ≤ 8 → AreAround 8 outer → All (IsField (8 - length outer)) fields →
-    Grows (around outer ++ inside fields next) word (closed (in_body outer fields mark next))
+    AddsWord (around outer ++ inside fields next) word (closed (in_body outer fields mark next))
 closed_says [] fields mark word next here same few are all fine = (
   ap (λ (t : List ℕ). t ++ codes " }") (sym here) ∙ ap (λ (w : List ℕ). inside fields next ++ 32 ∷ w) (sym same),
   record { few = few; outer = are; fields = all; next = refl },
 )
 closed_says (first ∷ outer) fields mark word next here same few are all fine =
     let last = has_last first outer in
-    (subst (λ outer. length outer ≤ 8 → AreAround 8 outer → All (IsField (8 - length outer)) fields → Grows (around outer ++ inside fields next) word (closed (in_body outer fields mark next)))
+    (subst (λ outer. length outer ≤ 8 → AreAround 8 outer → All (IsField (8 - length outer)) fields → AddsWord (around outer ++ inside fields next) word (closed (in_body outer fields mark next)))
     (sym last.parts) (closed_inner last.before last.last fields mark word next here same)) few are all fine
 
 -- ---- any word
@@ -282,22 +284,22 @@ no_fields_open : (fields : List Field) → fields ≡ [] → (32 ∷ 123 ∷ ope
 no_fields_open fields e = ap (λ fields. 32 ∷ 123 ∷ open_fields fields) e ∙ sym (ap (λ fields. 32 ∷ 123 ∷ fields_text fields) e)
 
 next_says : (next : Next) (outer : List (List Field)) (fields : List Field) (mark : Mark) (word : List ℕ) (more : Body) → length outer ≤ 8 → AreAround 8 outer → All (IsField (8 - length outer)) fields →
-    IsNext (8 - length outer) outer fields next → next_word next (in_body outer fields mark next) word ≡ Some more → Grows (around outer ++ inside fields next) word more
+    FitsNext (8 - length outer) outer fields next → next_word next (in_body outer fields mark next) word ≡ Some more → AddsWord (around outer ++ inside fields next) word more
 next_says Open outer fields mark word more few are all free e =
-    only (is (codes "{") word) _ _ (λ t e. grown (around outer ++ []) word (in_body outer fields mark First) more e (λ fine. (
-      grows (around outer) [] (32 ∷ 123 ∷ open_fields fields) word (ap (λ (fields : List Field). 32 ∷ 123 ∷ open_fields fields) free ∙ ap (λ (w : List ℕ). 32 ∷ w) (sym (is_same (codes "{") word t))),
+    only (is (codes "{") word) _ _ (λ t e. adds_same (around outer ++ []) word (in_body outer fields mark First) more e (λ fine. (
+      adds_word (around outer) [] (32 ∷ 123 ∷ open_fields fields) word (ap (λ (fields : List Field). 32 ∷ 123 ∷ open_fields fields) free ∙ ap (λ (w : List ℕ). 32 ∷ w) (sym (is_same (codes "{") word t))),
       record { few = few; outer = are; fields = all; next = free },
     ))) e
 next_says First outer fields mark word more few are all free e =
     chosen (is (codes "}") word) _ _ _
-    (λ t e. grown (around outer ++ inside fields First) word (closed (in_body outer fields mark First)) more e (closed_says outer fields mark word First (no_fields_open fields free) (is_same (codes "}") word t) few are all))
+    (λ t e. adds_same (around outer ++ inside fields First) word (closed (in_body outer fields mark First)) more e (closed_says outer fields mark word First (no_fields_open fields free) (is_same (codes "}") word t) few are all))
     (λ f e. kinded_says outer fields mark few are all word First more e) e
 next_says More outer fields mark word more few are all free e = kinded_says outer fields mark few are all word More more e
 next_says Size outer fields mark word more few are all free e = sized_says outer fields mark few are all word more e
 next_says Of outer fields mark word more few are all free e = of_says outer fields mark few are all word more e
 next_says (Label kind) outer fields mark word more few are all free e = labelled_says outer fields mark few are all word kind free more e
 next_says Close outer fields mark word more few are all free e =
-    only (is (codes "}") word) _ _ (λ t e. grown (around outer ++ inside fields Close) word (closed (in_body outer fields mark Close)) more e (closed_says outer fields mark word Close refl (is_same (codes "}") word t) few are all)) e
+    only (is (codes "}") word) _ _ (λ t e. adds_same (around outer ++ inside fields Close) word (closed (in_body outer fields mark Close)) more e (closed_says outer fields mark word Close refl (is_same (codes "}") word t) few are all)) e
 next_says Done outer fields mark word more few are all free e = none_found more e
 
 -- ---- marks only get worse

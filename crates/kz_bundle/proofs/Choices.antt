@@ -2,7 +2,7 @@
 use Rattle.std.proofs.Common.{◌≡◌, ℕ, ◌<◌, ◌≤◌, ◌==◌, ◌&&◌, ◌||◌, Bool, true, false, nat_lt, nat_le, if◌then◌else◌, List, [], ◌∷◌, ◌++◌, Option, Some, None, Result, Ok, Err, IsTrue, refl, ap, sym, arith, true≢false}
 use Rattle.std.specs.List.{list_all, list_any}
 use lib.Pointwise.{bytes_decides}
-use Rattle.kz_model.specs.Tokens.{is}
+use Rattle.kz_model.specs.Grammar.Tokens.{is}
 
 -- ---- tests
 

@@ -5,9 +5,9 @@ use Rattle.std.specs.Prelude.{Result, Ok, Err, IfOk}
 use Rattle.std.proofs.lemmas.List.Elements.{All-append}
 use Rattle.std.proofs.lemmas.List.{take_more, get_or-set_same, get_or-set_other, length-set, map-append, length-map}
 use Rattle.kz_model.specs.declared.bundle.TraceStep.{TraceStep}
-use Rattle.kz_model.specs.Stages.{steps_in, left_in}
-use Rattle.kz_model.specs.Traces.{no_step}
-use Rattle.kz_bundle.specs.declared.parts.Part.{Part}
+use Rattle.kz_model.specs.Grammar.Stages.{steps_in, left_in}
+use Rattle.kz_model.specs.Run.Journal.{no_step}
+use Rattle.kz_bundle.specs.declared.form.parts.Part.{Part}
 use Rattle.kz_bundle.specs.Parts.{line_meant, section_meant}
 use Rattle.kz_bundle.specs.Rounds.{AreTables, column}
 

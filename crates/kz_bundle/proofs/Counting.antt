@@ -1,68 +1,39 @@
 -- Lines are counted one by one.
-use Rattle.std.proofs.Common.{◌≡◌, ℕ, ◌+◌, ◌<◌, ◌≤◌, ◌==◌, nat_lt, true, false, cond, Bool, List, [], ◌∷◌, ◌++◌, length, length-append, map, replicate, sum, sum_by, take, slice_index, slice_set, refl, ap, sym, ◌∙◌, arith, inl, inr}
-use Rattle.std.proofs.Math.ListN.{get_or}
-use Rattle.std.proofs.Math.Seq.{get_or-append_seam, take-length}
+use Rattle.std.proofs.Common.{◌≡◌, ◌≢◌, ℕ, ◌+◌, ◌<◌, ◌≤◌, ◌==◌, nat_lt, true, false, cond, Bool, List, [], ◌∷◌, length, map, replicate, sum, take, slice_index, slice_index_or, slice_set, Some, None, refl, ap, sym, ◌∙◌, subst, arith, inl, inr}
+use Rattle.std.proofs.Math.Seq.{take-length}
 use Rattle.std.proofs.lemmas.Bool.{cases_eq}
 use Rattle.std.proofs.lemmas.Bool.Decides.{nat_tests}
-use Rattle.std.proofs.lemmas.List.{get_or-set_same, get_or-set_other, get_or_default, get_or-map, get_or-replicate, length-map, length-replicate, length-set, length-take-le, take_more, same_lists}
-use Rattle.std.proofs.lemmas.List.FromFn.{get_or-map-range_with_len, length-map-range_with_len, map-range_with_len_more}
-use Rattle.std.proofs.lemmas.List.Sums.{get_or-le-sum_by, sum-map, sum_by-le-sum_by}
+use Rattle.std.proofs.lemmas.List.{get_or-replicate, length-replicate}
+use Rattle.std.proofs.lemmas.List.FromFn.{fill_by_all, get_or-map-range_with_len, length-map-range_with_len}
 use Rattle.std.specs.List.{range_with_len}
+use Rattle.kz_model.specs.declared.bundle.Act.{Act}
+use Rattle.kz_model.specs.declared.bundle.Act.TheVariants as act
 use Rattle.kz_model.specs.declared.bundle.Bundle.{Bundle}
 use Rattle.kz_model.specs.declared.bundle.TraceStep.{TraceStep}
 use Rattle.kz_model.specs.declared.record.Plan.{Plan}
-use Rattle.kz_model.specs.declared.record.Room.{Room}
-use Rattle.kz_model.specs.Journal.{addressed, trace_of, steps_among}
-use Rattle.kz_model.specs.Rooms.{lines_on, steps_on, room_of, rooms_of}
-use Rattle.kz_model.specs.Traces.{no_step}
-use Rattle.kz_model.specs.Valid.{IsValid}
-use Rattle.kz_model.proofs.OrderLines.{steps_among-append}
-use Rattle.kz_bundle.specs.Counted.{AreCounted, lines_before, one_more, row_at}
+use Rattle.kz_model.specs.declared.step.Step.{Step}
+use Rattle.kz_model.specs.Run.Rooms.{sum_below, is_allocating, is_giving, kind_among}
+use Rattle.kz_model.specs.Run.Journal.{addressed, trace_of}
+use Rattle.kz_model.specs.Types.Planned.{IsPlanned}
+use Rattle.kz_model.specs.Run.Rooms.{lines_among, lines_on, steps_on}
+use Rattle.kz_model.specs.Run.Journal.{no_step}
+use Rattle.kz_model.specs.Grammar.Valid.{IsValid}
+use Rattle.kz_model.proofs.LineCounts.{Adds}
+use Rattle.kz_model.proofs.LineCounts.{count_within, count_more, lines_add, kind_adds, line_here, line_away, kind_here, kind_within}
+use Rattle.kz_model.proofs.LineCounts.{lines_are_few}
+use Rattle.kz_model.proofs.Sums.{sum_below-same, sum_below-zero, sum_below-le, sum_below-one, sum_below-set, sum_range}
+use Rattle.kz_bundle.specs.declared.planned.counts.ZoneLines.{ZoneLines}
+use Rattle.kz_bundle.specs.Counted.{allocations_in, counted, counted_on, gifts_in, lines_before, no_lines, one_more}
+use Rattle.kz_bundle.proofs.InRange.{range_alike, range_set}
+use Rattle.kz_bundle.proofs.Zoned.{zone_there}
 
--- ---- how many lines there are
+abbrev lines_of : List ℕ → ℕ → ℕ → ZoneLines
+lines_of by_cpu allocating giving = record { by_cpu = by_cpu; allocating = allocating; giving = giving }
 
-pub few_among : (b : Bundle) (plan : Plan) (zone : ℕ) (lines : List TraceStep) → length (steps_among b plan zone lines) ≤ length lines
-few_among b plan zone [] = omega arith
-few_among b plan zone (line ∷ lines) =
-    elim ((addressed b plan line.act).0 == zone) as (λ same. length (cond same ((addressed b plan line.act).1 ∷ steps_among b plan zone lines) (steps_among b plan zone lines)) ≤ length (line ∷ lines)) [
-      | true ↦ omega (arith, few_among b plan zone lines)
-      | false ↦ omega (arith, few_among b plan zone lines)
-    ]
+lines_alike : (xs ys : List ℕ) (k l m n : ℕ) → xs ≡ ys → k ≡ l → m ≡ n → lines_of xs k m ≡ lines_of ys l n
+lines_alike xs ys k l m n e f g = ap (λ xs. lines_of xs k m) e ∙ ap (λ k. lines_of ys k m) f ∙ ap (lines_of ys l) g
 
-pub few_lines : (b : Bundle) (cpu : ℕ) → IsValid b → cpu < b.cpus → length (trace_of b cpu) ≤ 1000000
-few_lines b cpu is there =
-    let some : length (trace_of b cpu) ≤ sum_by length b.traces = get_or-le-sum_by (λ (trace : List TraceStep). length trace) b.traces cpu [] (omega (arith, is.traces)) in
-    omega (arith, is.few_steps)
-
-by_trace : (b : Bundle) (plan : Plan) (zone : ℕ) → IsValid b → steps_on b plan zone ≡ map (λ trace. length (steps_among b plan zone trace)) b.traces
-by_trace b plan zone is =
-    let f : List TraceStep → ℕ = λ trace. length (steps_among b plan zone trace) in
-    let many : length (steps_on b plan zone) ≡ b.cpus = length-map-range_with_len (lines_on b plan zone) 0 b.cpus in
-    same_lists (steps_on b plan zone) (map f b.traces) (many ∙ sym (length-map b.traces f ∙ is.traces))
-    (λ k d inside.
-    get_or-map-range_with_len (lines_on b plan zone) 0 b.cpus k k d (omega (arith, many)) (omega arith)
-    ∙ sym (get_or-map f b.traces k [] d (omega (arith, many, is.traces))))
-
--- all CPUs' lines on a zone are among those of the bundle
-pub few_steps_on : (b : Bundle) (plan : Plan) (zone : ℕ) → IsValid b → sum (steps_on b plan zone) ≤ 1000000
-few_steps_on b plan zone is =
-    let f : List TraceStep → ℕ = λ trace. length (steps_among b plan zone trace) in
-    let total : sum (steps_on b plan zone) ≡ sum_by f b.traces = ap sum (by_trace b plan zone is) ∙ sum-map f b.traces in
-    let within : sum_by f b.traces ≤ sum_by (λ (trace : List TraceStep). length trace) b.traces = sum_by-le-sum_by f (λ trace. length trace) b.traces (few_among b plan zone) in
-    omega (arith, is.few_steps)
-
--- ---- one line more
-
-abbrev pub one_if : Bool → ℕ
-one_if is = cond is 1 0
-
-pub steps_among-push : (b : Bundle) (plan : Plan) (zone : ℕ) (lines : List TraceStep) (line : TraceStep) →
-    length (steps_among b plan zone (lines ++ line ∷ [])) ≡ length (steps_among b plan zone lines) + one_if ((addressed b plan line.act).0 == zone)
-steps_among-push b plan zone lines line =
-    ap length (steps_among-append b plan zone lines (line ∷ []))
-    ∙ length-append (steps_among b plan zone lines) (steps_among b plan zone (line ∷ []))
-    ∙ ap (λ n. length (steps_among b plan zone lines) + n)
-    (elim ((addressed b plan line.act).0 == zone) as (λ same. length (cond same ((addressed b plan line.act).1 ∷ []) []) ≡ one_if same) [ true ↦ refl | false ↦ refl ])
+-- ---- the lines so far
 
 lines-here : (b : Bundle) (cpu at : ℕ) → lines_before b cpu at cpu ≡ take at (trace_of b cpu)
 lines-here b cpu at =
@@ -70,182 +41,214 @@ lines-here b cpu at =
     let same : (cpu == cpu) ≡ true = grind (arith, nat_tests) in
     rw (below, same) refl
 
-lines-apart : (b : Bundle) (cpu at more other : ℕ) → ¬ (other ≡ cpu) → lines_before b cpu at other ≡ lines_before b cpu more other
+lines-apart : (b : Bundle) (cpu at more other : ℕ) → other ≢ cpu → lines_before b cpu at other ≡ lines_before b cpu more other
 lines-apart b cpu at more other apart =
     let same : (other == cpu) ≡ false = grind (arith, nat_tests) in
     rw same refl
 
-module _ (b : Bundle) (plan : Plan) (cpu at zone : ℕ) (table : List (List ℕ)) (is : AreCounted b plan (lines_before b cpu at) table) (there : cpu < b.cpus) (inside : at < length (trace_of b cpu))
-    (here : zone ≡ (addressed b plan (get_or (trace_of b cpu) at no_step).act).0) (within : zone < length plan.zones) where
+-- a count of them is no more than that of all lines
+module _ (b : Bundle) (count : List TraceStep → ℕ) (adds : Adds count) where
+  abbrev of_test : Bool → Bool → ℕ → ℕ → List TraceStep
+  of_test before here at other = cond before (trace_of b other) (cond here (take at (trace_of b other)) [])
+
+  within_by : (before here : Bool) (at other : ℕ) → count (of_test before here at other) ≤ count (trace_of b other)
+  within_by true here at other = omega arith
+  within_by false true at other = count_within count adds (trace_of b other) at
+  within_by false false at other = omega (arith, adds [] [])
+
+  count_before : (cpu at other : ℕ) → count (lines_before b cpu at other) ≤ count (trace_of b other)
+  count_before cpu at other = within_by (nat_lt other cpu) (other == cpu) at other
+
+-- all CPUs' lines on a zone are among those of the bundle
+few_on : (b : Bundle) (plan : Plan) (zone : ℕ) (lines : ℕ → List TraceStep) (count : List TraceStep → ℕ) → IsValid b → ((cpu : ℕ) → count (lines cpu) ≤ lines_among b plan zone (trace_of b cpu)) →
+    sum_below (λ cpu. count (lines cpu)) b.cpus ≤ 1000000
+few_on b plan zone lines count is within =
+    omega (arith, sum_below-le (λ cpu. count (lines cpu)) (lines_on b plan zone) b.cpus (λ cpu lt. within cpu), lines_are_few b plan zone is, is.few_steps)
+
+pub few_lines : (b : Bundle) (plan : Plan) (cpu at zone : ℕ) → IsValid b → sum_below (λ k. lines_among b plan zone (lines_before b cpu at k)) b.cpus ≤ 1000000
+few_lines b plan cpu at zone is = few_on b plan zone (lines_before b cpu at) (lines_among b plan zone) is (count_before b (lines_among b plan zone) (lines_add b plan zone) cpu at)
+
+pub few_of : (b : Bundle) (plan : Plan) (kind : Act → Bool) (cpu at zone : ℕ) → IsValid b → sum_below (λ k. kind_among b plan kind zone (lines_before b cpu at k)) b.cpus ≤ 1000000
+few_of b plan kind cpu at zone is =
+    few_on b plan zone (lines_before b cpu at) (kind_among b plan kind zone) is
+    (λ k. let all = count_before b (kind_among b plan kind zone) (kind_adds b plan kind zone) cpu at k in omega (arith, all, kind_within b plan kind zone (trace_of b k)))
+
+-- ---- one line more
+
+-- counts with room for one more line of a CPU
+pub record AreFew (cpu : ℕ) (counts : ZoneLines) : Type 0 where
+  pub there : cpu < length counts.by_cpu
+  pub lines : slice_index counts.by_cpu cpu ≤ 1000000
+  pub allocating : counts.allocating ≤ 1000000
+  pub giving : counts.giving ≤ 1000000
+
+allocates : (b : Bundle) (plan : Plan) (line : Act) → cond (is_allocating line) 1 0 ≡ allocations_in (addressed b plan line).1
+allocates b plan (act.Free name None) = refl
+allocates b plan (act.Free name (Some of)) = refl
+allocates b plan line = refl
+
+gives : (b : Bundle) (plan : Plan) (line : Act) → cond (is_giving line) 1 0 ≡ gifts_in (addressed b plan line).1
+gives b plan (act.Free name None) = refl
+gives b plan (act.Free name (Some of)) = refl
+gives b plan line = refl
+
+module _ (b : Bundle) (plan : Plan) (cpu at : ℕ) (low : cpu < b.cpus) (inside : at < length (trace_of b cpu)) where
   abbrev line : TraceStep
-  line = get_or (trace_of b cpu) at no_step
+  line = slice_index_or (trace_of b cpu) at no_step
 
-  abbrev row : List ℕ
-  row = row_at table zone
+  abbrev there : ℕ × Step
+  there = addressed b plan line.act
 
-  abbrev new_row : List ℕ
-  new_row = slice_set row cpu (slice_index row cpu + 1)
+  abbrev before : ℕ → List TraceStep
+  before = lines_before b cpu at
 
-  more : lines_before b cpu (at + 1) cpu ≡ lines_before b cpu at cpu ++ line ∷ []
-  more = lines-here b cpu (at + 1) ∙ take_more (trace_of b cpu) at no_step inside ∙ ap (λ lines. lines ++ line ∷ []) (sym (lines-here b cpu at))
+  abbrev after : ℕ → List TraceStep
+  after = lines_before b cpu (at + 1)
 
-  -- in a zone, the line counts for its CPU
-  counts : (z : ℕ) → length (steps_among b plan z (lines_before b cpu (at + 1) cpu)) ≡ length (steps_among b plan z (lines_before b cpu at cpu)) + one_if (zone == z)
-  counts z =
-      ap (λ lines. length (steps_among b plan z lines)) more
-      ∙ steps_among-push b plan z (lines_before b cpu at cpu) line
-      ∙ ap (λ n. length (steps_among b plan z (lines_before b cpu at cpu)) + one_if (n == z)) (sym here)
+  module _ (count : List TraceStep → ℕ) (adds : Adds count) where
+    count_here : count (after cpu) ≡ count (before cpu) + count (line ∷ [])
+    count_here = ap count (lines-here b cpu (at + 1)) ∙ count_more count adds (trace_of b cpu) at inside ∙ ap (λ lines. count lines + count (line ∷ [])) (sym (lines-here b cpu at))
 
-  apart : (z other : ℕ) → ¬ (other ≡ cpu) → length (steps_among b plan z (lines_before b cpu (at + 1) other)) ≡ length (steps_among b plan z (lines_before b cpu at other))
-  apart z other differ = ap (λ lines. length (steps_among b plan z lines)) (lines-apart b cpu (at + 1) at other differ)
+    count_apart : (other : ℕ) → other ≢ cpu → count (after other) ≡ count (before other)
+    count_apart other apart = ap count (lines-apart b cpu (at + 1) at other apart)
 
-  in_row : (other : ℕ) → other < b.cpus → slice_index new_row other ≡ length (steps_among b plan zone (lines_before b cpu (at + 1) other))
-  in_row other low = elim (cases_eq other cpu) [
-    | inl same ↦
-        let yes : (zone == zone) ≡ true = grind (arith, nat_tests) in
-        ap (slice_index new_row) same ∙ get_or-set_same row cpu (slice_index row cpu + 1) 0 (omega (arith, is.cpus zone within))
-        ∙ ap (λ n. n + 1) (is.each zone cpu within there)
-        ∙ sym (ap (λ k. length (steps_among b plan zone (lines_before b cpu (at + 1) k))) same ∙ counts zone ∙ ap (λ c. length (steps_among b plan zone (lines_before b cpu at cpu)) + one_if c) yes)
-    | inr differ ↦ get_or-set_other row cpu other (slice_index row cpu + 1) 0 differ ∙ is.each zone other within low ∙ sym (apart zone other differ)
-  ]
+    count_all : sum_below (λ k. count (after k)) b.cpus ≡ sum_below (λ k. count (before k)) b.cpus + count (line ∷ [])
+    count_all = omega (arith, sum_below-set (λ k. count (before k)) (λ k. count (after k)) b.cpus cpu low (λ k lt apart. count_apart k apart), count_here)
 
-  unchanged : (z other : ℕ) → ¬ (z ≡ zone) → z < length plan.zones → other < b.cpus → slice_index (row_at table z) other ≡ length (steps_among b plan z (lines_before b cpu (at + 1) other))
-  unchanged z other far low low_cpu =
-      is.each z other low low_cpu
-      ∙ elim (cases_eq other cpu) [
-        | inl same ↦
-            let other_zone : (zone == z) ≡ false = grind (arith, nat_tests) in
-            ap (λ k. length (steps_among b plan z (lines_before b cpu at k))) same
-            ∙ sym (ap (λ k. length (steps_among b plan z (lines_before b cpu (at + 1) k))) same ∙ counts z ∙ ap (λ c. length (steps_among b plan z (lines_before b cpu at cpu)) + one_if c) other_zone ∙ omega arith)
-        | inr differ ↦ sym (apart z other differ)
-      ]
+    count_none : count (line ∷ []) ≡ 0 → (other : ℕ) → count (before other) ≡ count (after other)
+    count_none none other = elim (cases_eq other cpu) [
+      | inl same ↦ ap (λ k. count (before k)) same ∙ omega (arith, count_here, none) ∙ sym (ap (λ k. count (after k)) same)
+      | inr apart ↦ sym (count_apart other apart)
+    ]
 
-  new_here : row_at (one_more zone cpu table) zone ≡ new_row
-  new_here = get_or-set_same table zone new_row [] (omega (arith, is.zones))
+  -- on the line's own zone
+  counted_here : one_more cpu there.1 (counted_on b plan before there.0) ≡ counted_on b plan after there.0
+  counted_here =
+      let lines : List TraceStep → ℕ = lines_among b plan there.0 in
+      let first : slice_index (map (λ k. lines (before k)) (range_with_len 0 b.cpus)) cpu ≡ lines (before cpu) = get_or-map-range_with_len (λ k. lines (before k)) 0 b.cpus cpu cpu 0 low (omega arith) in
+      let one : lines (after cpu) ≡ lines (before cpu) + 1 = count_here lines (lines_add b plan there.0) ∙ ap (λ n. lines (before cpu) + n) (line_here b plan line) in
+      lines_alike _ _ _ _ _ _
+      (range_set (λ k. lines (before k)) (λ k. lines (after k)) b.cpus cpu (slice_index (map (λ k. lines (before k)) (range_with_len 0 b.cpus)) cpu + 1) low (ap (λ n. n + 1) first ∙ sym one)
+      (λ k lt apart. sym (count_apart lines (lines_add b plan there.0) k apart)))
+      (of_kind is_allocating (allocations_in there.1) (allocates b plan line.act))
+      (of_kind is_giving (gifts_in there.1) (gives b plan line.act))
+    where
+      of_kind : (kind : Act → Bool) (n : ℕ) → cond (kind line.act) 1 0 ≡ n →
+          sum_below (λ k. kind_among b plan kind there.0 (before k)) b.cpus + n ≡ sum_below (λ k. kind_among b plan kind there.0 (after k)) b.cpus
+      of_kind kind n is = omega (arith, count_all (kind_among b plan kind there.0) (kind_adds b plan kind there.0), kind_here b plan kind line, is)
 
-  new_there : (z : ℕ) → ¬ (z ≡ zone) → row_at (one_more zone cpu table) z ≡ row_at table z
-  new_there z far = get_or-set_other table zone z new_row [] far
+  -- on another zone
+  counted_away : (zone : ℕ) → zone ≢ there.0 → counted_on b plan before zone ≡ counted_on b plan after zone
+  counted_away zone away =
+      let none : lines_among b plan zone (line ∷ []) ≡ 0 = line_away b plan zone line away in
+      lines_alike _ _ _ _ _ _
+      (range_alike (λ k. lines_among b plan zone (before k)) (λ k. lines_among b plan zone (after k)) b.cpus (λ k lt. count_none (lines_among b plan zone) (lines_add b plan zone) none k))
+      (of_kind is_allocating)
+      (of_kind is_giving)
+    where
+      of_kind : (kind : Act → Bool) → sum_below (λ k. kind_among b plan kind zone (before k)) b.cpus ≡ sum_below (λ k. kind_among b plan kind zone (after k)) b.cpus
+      of_kind kind =
+          let none : kind_among b plan kind zone (line ∷ []) ≡ 0 = omega (arith, kind_within b plan kind zone (line ∷ []), line_away b plan zone line away) in
+          sum_below-same (λ k. kind_among b plan kind zone (before k)) (λ k. kind_among b plan kind zone (after k)) b.cpus (λ k lt. count_none (kind_among b plan kind zone) (kind_adds b plan kind zone) none k)
 
-  pub counted-more : AreCounted b plan (lines_before b cpu (at + 1)) (one_more zone cpu table)
-  counted-more = record {
-    zones = length-set table zone new_row ∙ is.zones;
-    cpus = λ z low. elim (cases_eq z zone) [
-      | inl same ↦ ap (λ z. length (row_at (one_more zone cpu table) z)) same ∙ ap length new_here ∙ length-set row cpu (slice_index row cpu + 1) ∙ is.cpus zone within
-      | inr far ↦ ap length (new_there z far) ∙ is.cpus z low
-    ];
-    each = λ z other low low_cpu. elim (cases_eq z zone) [
-      | inl same ↦
-          ap (λ z. slice_index (row_at (one_more zone cpu table) z) other) same ∙ ap (λ r. slice_index r other) new_here ∙ in_row other low_cpu
-          ∙ ap (λ z. length (steps_among b plan z (lines_before b cpu (at + 1) other))) (sym same)
-      | inr far ↦ ap (λ r. slice_index r other) (new_there z far) ∙ unchanged z other far low low_cpu
-    ];
-  }
+  pub counted_more : there.0 < length plan.zones → slice_set (counted b plan before) there.0 (one_more cpu there.1 (counted_on b plan before there.0)) ≡ counted b plan after
+  counted_more within = range_set (counted_on b plan before) (counted_on b plan after) (length plan.zones) there.0 (one_more cpu there.1 (counted_on b plan before there.0)) within counted_here (λ k lt away. counted_away k away)
 
--- how many lines were counted where one more is counted
-pub counted-few : (b : Bundle) (plan : Plan) (cpu at zone : ℕ) (table : List (List ℕ)) → IsValid b → AreCounted b plan (lines_before b cpu at) table → cpu < b.cpus → at < length (trace_of b cpu) → zone < length plan.zones →
-    slice_index (row_at table zone) cpu ≤ 1000000
-counted-few b plan cpu at zone table valid is there inside within =
-    omega (
-      arith,
-      is.each zone cpu within there,
-      ap (λ lines. length (steps_among b plan zone lines)) (lines-here b cpu at),
-      few_among b plan zone (take at (trace_of b cpu)),
-      length-take-le at (trace_of b cpu) (omega arith),
-      few_lines b cpu valid there,
-    )
+-- ---- the table
+
+module _ (b : Bundle) (plan : Plan) (cpu at : ℕ) (table : List ZoneLines) (planned : IsPlanned b plan) (low : cpu < b.cpus) (inside : at < length (trace_of b cpu))
+    (are : table ≡ counted b plan (lines_before b cpu at)) (found : ℕ × Step) (is_found : found ≡ addressed b plan (slice_index_or (trace_of b cpu) at no_step).act) where
+  in_zones : found.0 < length plan.zones
+  in_zones = zone_there b plan cpu at found planned inside is_found
+
+  pub found_within : found.0 < length table
+  found_within = omega (arith, in_zones, ap length are, length-map-range_with_len (counted_on b plan (lines_before b cpu at)) 0 (length plan.zones))
+
+  module _ (old : ZoneLines) where
+    row_is : slice_index_or table found.0 old ≡ counted_on b plan (lines_before b cpu at) found.0
+    row_is = ap (λ (table : List ZoneLines). slice_index_or table found.0 old) are ∙ get_or-map-range_with_len (counted_on b plan (lines_before b cpu at)) 0 (length plan.zones) found.0 found.0 old in_zones (omega arith)
+
+    -- there is room for one more
+    pub row_few : AreFew cpu (slice_index_or table found.0 old)
+    row_few =
+        let lines : ℕ → ℕ = λ k. lines_among b plan found.0 (lines_before b cpu at k) in
+        let long = length-map-range_with_len lines 0 b.cpus in
+        let mine = get_or-map-range_with_len lines 0 b.cpus cpu cpu 0 low (omega arith) in
+        subst (AreFew cpu) (sym row_is)
+        (record {
+          there = omega (arith, long, low);
+          lines = omega (arith, mine, sum_below-one lines b.cpus cpu low, few_lines b plan cpu at found.0 planned.is_valid);
+          allocating = few_of b plan is_allocating cpu at found.0 planned.is_valid;
+          giving = few_of b plan is_giving cpu at found.0 planned.is_valid;
+        })
+
+    pub row_counted : slice_set table found.0 (one_more cpu found.1 (slice_index_or table found.0 old)) ≡ counted b plan (lines_before b cpu (at + 1))
+    row_counted =
+        ap (λ lines. slice_set table found.0 (one_more cpu found.1 lines)) row_is
+        ∙ ap (λ (table : List ZoneLines). slice_set table found.0 (one_more cpu found.1 (counted_on b plan (lines_before b cpu at) found.0))) are
+        ∙ ap (λ (t : ℕ × Step). slice_set (counted b plan (lines_before b cpu at)) t.0 (one_more cpu t.1 (counted_on b plan (lines_before b cpu at) t.0))) is_found
+        ∙ counted_more b plan cpu at low inside (subst (λ (t : ℕ × Step). t.0 < length plan.zones) is_found in_zones)
 
 -- ---- first and last
 
-counted-same : (b : Bundle) (plan : Plan) (lines other : ℕ → List TraceStep) (table : List (List ℕ)) → ((cpu : ℕ) → cpu < b.cpus → lines cpu ≡ other cpu) → AreCounted b plan lines table → AreCounted b plan other table
-counted-same b plan lines other table same is = record {
-  zones = is.zones;
-  cpus = is.cpus;
-  each = λ zone cpu within there. is.each zone cpu within there ∙ ap (λ lines. length (steps_among b plan zone lines)) (same cpu there);
-}
-
-lines-next : (b : Bundle) (cpu other : ℕ) → lines_before b cpu (length (trace_of b cpu)) other ≡ lines_before b (cpu + 1) 0 other
-lines-next b cpu other = elim (cases_eq other cpu) [
-  | inl same ↦
-      let low : nat_lt cpu (cpu + 1) ≡ true = grind (arith, nat_tests) in
-      let last : lines_before b (cpu + 1) 0 cpu ≡ trace_of b cpu = rw low refl in
-      ap (λ k. lines_before b cpu (length (trace_of b cpu)) k) same ∙ lines-here b cpu (length (trace_of b cpu)) ∙ take-length (trace_of b cpu)
-      ∙ sym (ap (λ k. lines_before b (cpu + 1) 0 k) same ∙ last)
-  | inr differ ↦
-      let here : (other == cpu) ≡ false = grind (arith, nat_tests) in
-      let below : nat_lt other (cpu + 1) ≡ nat_lt other cpu = grind (arith, nat_tests) in
-      rw (here, below) (by_next (other == cpu + 1) (nat_lt other cpu))
-]
+counted_same : (b : Bundle) (plan : Plan) (lines other : ℕ → List TraceStep) → ((cpu : ℕ) → cpu < b.cpus → lines cpu ≡ other cpu) → counted b plan lines ≡ counted b plan other
+counted_same b plan lines other same =
+    range_alike (counted_on b plan lines) (counted_on b plan other) (length plan.zones)
+    (λ zone lt. lines_alike _ _ _ _ _ _
+    (range_alike (λ cpu. lines_among b plan zone (lines cpu)) (λ cpu. lines_among b plan zone (other cpu)) b.cpus (λ cpu low. ap (lines_among b plan zone) (same cpu low)))
+    (of_kind zone is_allocating)
+    (of_kind zone is_giving))
   where
-    by_next : (next low : Bool) → cond low (trace_of b other) [] ≡ cond low (trace_of b other) (cond next (take 0 (trace_of b (cpu + 1))) [])
-    by_next true true = refl
-    by_next true false = refl
-    by_next false low = refl
+    of_kind : (zone : ℕ) (kind : Act → Bool) → sum_below (λ cpu. kind_among b plan kind zone (lines cpu)) b.cpus ≡ sum_below (λ cpu. kind_among b plan kind zone (other cpu)) b.cpus
+    of_kind zone kind =
+        sum_below-same (λ cpu. kind_among b plan kind zone (lines cpu)) (λ cpu. kind_among b plan kind zone (other cpu)) b.cpus (λ cpu low. ap (kind_among b plan kind zone) (same cpu low))
 
-pub counted-next : (b : Bundle) (plan : Plan) (cpu : ℕ) (table : List (List ℕ)) → AreCounted b plan (lines_before b cpu (length (trace_of b cpu))) table → AreCounted b plan (lines_before b (cpu + 1) 0) table
-counted-next b plan cpu table is = counted-same b plan _ _ table (λ other there. lines-next b cpu other) is
-
-pub counted-first : (b : Bundle) (plan : Plan) (table : List (List ℕ)) → table ≡ replicate (length plan.zones) (replicate b.cpus 0) → AreCounted b plan (lines_before b 0 0) table
-counted-first b plan table is =
-    let row : (zone : ℕ) → zone < length plan.zones → row_at table zone ≡ replicate b.cpus 0 =
-    λ zone within. ap (λ t. row_at t zone) is ∙ get_or-replicate (length plan.zones) zone (replicate b.cpus 0) [] within in
-    record {
-      zones = ap length is ∙ length-replicate (length plan.zones) (replicate b.cpus 0);
-      cpus = λ zone within. ap length (row zone within) ∙ length-replicate b.cpus 0;
-      each = λ zone cpu within there. ap (λ r. slice_index r cpu) (row zone within) ∙ get_or-replicate b.cpus cpu 0 0 there ∙ sym (nothing zone cpu);
-    }
+pub counted_first : (b : Bundle) (plan : Plan) → replicate (length plan.zones) (no_lines b.cpus) ≡ counted b plan (lines_before b 0 0)
+counted_first b plan =
+    fill_by_all (counted_on b plan (lines_before b 0 0)) (replicate (length plan.zones) (no_lines b.cpus)) (length plan.zones) (no_lines 0) (length-replicate (length plan.zones) (no_lines b.cpus))
+    (λ zone lt. get_or-replicate (length plan.zones) zone (no_lines b.cpus) (no_lines 0) lt
+    ∙ lines_alike _ _ _ _ _ _
+    (fill_by_all (λ cpu. lines_among b plan zone (lines_before b 0 0 cpu)) (replicate b.cpus 0) b.cpus 0 (length-replicate b.cpus 0)
+    (λ cpu low. get_or-replicate b.cpus cpu 0 0 low ∙ sym (ap (lines_among b plan zone) (none cpu))))
+    (sym (of_kind zone is_allocating))
+    (sym (of_kind zone is_giving)))
   where
-    none_by : (same : Bool) → cond same (take {A = TraceStep} 0 (trace_of b 0)) [] ≡ []
-    none_by true = refl
-    none_by false = refl
+    none_by : (here : Bool) (lines : List TraceStep) → cond here (take 0 lines) [] ≡ []
+    none_by true lines = refl
+    none_by false lines = refl
 
     none : (cpu : ℕ) → lines_before b 0 0 cpu ≡ []
-    none cpu = let below : nat_lt cpu 0 ≡ false = grind (arith, nat_tests) in rw below (none_by (cpu == 0))
+    none cpu = let below : nat_lt cpu 0 ≡ false = grind (arith, nat_tests) in rw below (none_by (cpu == 0) (trace_of b cpu))
 
-    nothing : (zone cpu : ℕ) → length (steps_among b plan zone (lines_before b 0 0 cpu)) ≡ 0
-    nothing zone cpu = ap (λ lines. length (steps_among b plan zone lines)) (none cpu)
+    of_kind : (zone : ℕ) (kind : Act → Bool) → sum_below (λ cpu. kind_among b plan kind zone (lines_before b 0 0 cpu)) b.cpus ≡ 0
+    of_kind zone kind = sum_below-zero (λ cpu. kind_among b plan kind zone (lines_before b 0 0 cpu)) b.cpus (λ cpu low. ap (kind_among b plan kind zone) (none cpu))
 
-pub counted-last : (b : Bundle) (plan : Plan) (table : List (List ℕ)) → AreCounted b plan (lines_before b b.cpus 0) table → table ≡ map (steps_on b plan) (range_with_len 0 (length plan.zones))
-counted-last b plan table is =
-    same_lists table (map (steps_on b plan) (range_with_len 0 (length plan.zones))) (is.zones ∙ sym (length-map-range_with_len (steps_on b plan) 0 (length plan.zones)))
-    (λ zone d inside.
-    let within : zone < length plan.zones = omega (arith, is.zones) in
-    get_or_default table zone d [] inside
-    ∙ same_lists (row_at table zone) (steps_on b plan zone) (is.cpus zone within ∙ sym (length-map-range_with_len (lines_on b plan zone) 0 b.cpus))
-    (λ cpu e low.
-    let there : cpu < b.cpus = omega (arith, is.cpus zone within) in
-    get_or_default (row_at table zone) cpu e 0 low ∙ is.each zone cpu within there
-    ∙ ap (λ lines. length (steps_among b plan zone lines)) (all cpu there)
-    ∙ sym (get_or-map-range_with_len (lines_on b plan zone) 0 b.cpus cpu cpu e there (omega arith)))
-    ∙ sym (get_or-map-range_with_len (steps_on b plan) 0 (length plan.zones) zone zone d within (omega arith)))
+pub counted_next : (b : Bundle) (plan : Plan) (cpu : ℕ) → counted b plan (lines_before b cpu (length (trace_of b cpu))) ≡ counted b plan (lines_before b (cpu + 1) 0)
+counted_next b plan cpu = counted_same b plan (lines_before b cpu (length (trace_of b cpu))) (lines_before b (cpu + 1) 0) (λ other low. next other)
   where
-    all : (cpu : ℕ) → cpu < b.cpus → lines_before b b.cpus 0 cpu ≡ trace_of b cpu
-    all cpu there = let low : nat_lt cpu b.cpus ≡ true = grind (arith, nat_tests) in rw low refl
+    by_test : (here low : Bool) (lines : List TraceStep) → cond low lines [] ≡ cond low lines (cond here (take 0 lines) [])
+    by_test true true lines = refl
+    by_test true false lines = refl
+    by_test false low lines = refl
 
--- ---- the rooms
+    next : (other : ℕ) → lines_before b cpu (length (trace_of b cpu)) other ≡ lines_before b (cpu + 1) 0 other
+    next other = elim (cases_eq other cpu) [
+      | inl same ↦
+          let low : nat_lt cpu (cpu + 1) ≡ true = grind (arith, nat_tests) in
+          let last : lines_before b (cpu + 1) 0 cpu ≡ trace_of b cpu = rw low refl in
+          ap (λ k. lines_before b cpu (length (trace_of b cpu)) k) same ∙ lines-here b cpu (length (trace_of b cpu)) ∙ take-length (trace_of b cpu)
+          ∙ sym (ap (λ k. lines_before b (cpu + 1) 0 k) same ∙ last)
+      | inr apart ↦
+          let here : (other == cpu) ≡ false = grind (arith, nat_tests) in
+          let below : nat_lt other (cpu + 1) ≡ nat_lt other cpu = grind (arith, nat_tests) in
+          rw (here, below) (by_test (other == cpu + 1) (nat_lt other cpu) (trace_of b other))
+    ]
 
--- the counts of the next zone
-pub zone_next : (b : Bundle) (plan : Plan) (n : ℕ) (yielded rest more : List (List ℕ)) (steps : List ℕ) → yielded ++ rest ≡ map (steps_on b plan) (range_with_len 0 n) → rest ≡ steps ∷ more →
-    (length yielded < n) × (steps ≡ steps_on b plan (length yielded))
-zone_next b plan n yielded rest more steps whole next =
-    let split : yielded ++ steps ∷ more ≡ map (steps_on b plan) (range_with_len 0 n) = ap (λ (rows : List (List ℕ)). yielded ++ rows) (sym next) ∙ whole in
-    let low : length yielded < n = omega (arith, ap length split, length-append yielded (steps ∷ more), length-map-range_with_len (steps_on b plan) 0 n) in (
-      low,
-      sym (get_or-append_seam yielded steps more []) ∙ ap (λ (rows : List (List ℕ)). get_or rows (length yielded) []) split
-          ∙ get_or-map-range_with_len (steps_on b plan) 0 n (length yielded) (length yielded) [] low (omega arith),
-    )
+pub counted_last : (b : Bundle) (plan : Plan) → counted b plan (lines_before b b.cpus 0) ≡ counted b plan (trace_of b)
+counted_last b plan = counted_same b plan (lines_before b b.cpus 0) (trace_of b) (λ cpu low. let all : nat_lt cpu b.cpus ≡ true = grind (arith, nat_tests) in rw all refl)
 
-pub rooms_next : (b : Bundle) (plan : Plan) (rooms new : List Room) (room : Room) (yielded : List (List ℕ)) (steps : List ℕ) (zone : ℕ) → rooms ≡ map (room_of b plan) (range_with_len 0 (length yielded)) →
-    zone ≡ length yielded → room ≡ room_of b plan zone → new ≡ rooms ++ room ∷ [] → new ≡ map (room_of b plan) (range_with_len 0 (length (yielded ++ steps ∷ [])))
-rooms_next b plan rooms new room yielded steps zone are here is pushed =
-    pushed ∙ ap (λ (rooms : List Room). rooms ++ room ∷ []) are ∙ ap (λ (room : Room). map (room_of b plan) (range_with_len 0 (length yielded)) ++ room ∷ []) (is ∙ ap (room_of b plan) here)
-    ∙ sym (map-range_with_len_more (room_of b plan) 0 (length yielded) (length yielded) (omega arith))
-    ∙ ap (λ n. map (room_of b plan) (range_with_len 0 n)) (sym (length-append yielded (steps ∷ [])))
+-- ---- all lines
 
-pub rooms_last : (b : Bundle) (plan : Plan) (rooms : List Room) (yielded rest : List (List ℕ)) → rooms ≡ map (room_of b plan) (range_with_len 0 (length yielded)) →
-    yielded ++ rest ≡ map (steps_on b plan) (range_with_len 0 (length plan.zones)) → length rest ≡ 0 → rooms ≡ rooms_of b plan
-rooms_last b plan rooms yielded rest are whole ended =
-    let all : length yielded ≡ length plan.zones = omega (arith, ap length whole, length-append yielded rest, length-map-range_with_len (steps_on b plan) 0 (length plan.zones)) in
-    are ∙ ap (λ n. map (room_of b plan) (range_with_len 0 n)) all
-
-pub rooms_many : (b : Bundle) (plan : Plan) (rooms : List Room) (n : ℕ) → rooms ≡ map (room_of b plan) (range_with_len 0 n) → length rooms ≡ n
-rooms_many b plan rooms n are = ap length are ∙ length-map-range_with_len (room_of b plan) 0 n
+-- all CPUs' lines on a zone
+pub few_steps_on : (b : Bundle) (plan : Plan) (zone : ℕ) → IsValid b → sum (steps_on b plan zone) ≤ 1000000
+few_steps_on b plan zone is = omega (arith, sum_range (lines_on b plan zone) b.cpus, lines_are_few b plan zone is, is.few_steps)

@@ -4,40 +4,40 @@ use Rattle.std.specs.List.{All}
 use Rattle.kz_text.specs.Lines.{Lines, TakesLine}
 use Rattle.kz_text.proofs.Cut.{lines_of-TakesLine, lines_of-no_end}
 use Rattle.kz_model.specs.declared.grammar.Refusal.{Refusal}
-use Rattle.kz_model.specs.Tokens.{lines_of, words_of}
-use Rattle.kz_model.specs.Form.{Draft, after_line, go_on, form_from, rest_at}
+use Rattle.kz_model.specs.Grammar.Tokens.{lines_of, tokens_of}
+use Rattle.kz_model.specs.Grammar.Form.{Draft, after_line, go_on, form_from, rest_at}
 use Rattle.kz_bundle.specs.declared.fault.ReadBundleFault.{ReadBundleFault}
 use Rattle.kz_bundle.specs.declared.fault.ReadBundleFault.TheVariants as whole
-use Rattle.kz_bundle.specs.declared.parts.Parts.{Parts}
-use Rattle.kz_bundle.specs.declared.reader.Fault.{Fault}
-use Rattle.kz_bundle.specs.declared.reader.Fault.TheVariants.{Refused, Memory}
+use Rattle.kz_bundle.specs.declared.form.parts.Parts.{Parts}
+use Rattle.kz_bundle.specs.declared.form.reader.Fault.{Fault}
+use Rattle.kz_bundle.specs.declared.form.reader.Fault.TheVariants.{Refused, Memory}
 use Rattle.kz_bundle.specs.Reading.{Takes, Forms, fault_at}
 use Rattle.kz_bundle.proofs.Cut.{Starts, some_part}
 
 -- a line with others behind it
 first_of_lines : (d : Draft) (n : ℕ) (text : List ℕ) (lines : List (List ℕ)) → Starts lines →
-    form_from d n (text ∷ lines) ≡ go_on n (after_line d.place d n (words_of text)) (λ more. form_from more (n + 1) lines)
+    form_from d n (text ∷ lines) ≡ go_on n (after_line d.place d n (tokens_of text)) (λ more. form_from more (n + 1) lines)
 first_of_lines d n text lines some =
-    let P : List (List ℕ) → Type 0 = λ lines. form_from d n (text ∷ lines) ≡ go_on n (after_line d.place d n (words_of text)) (λ more. form_from more (n + 1) lines) in
+    let P : List (List ℕ) → Type 0 = λ lines. form_from d n (text ∷ lines) ≡ go_on n (after_line d.place d n (tokens_of text)) (λ more. form_from more (n + 1) lines) in
     subst P (sym some.all) refl
 
 -- one line is taken off
 takes_line : (d : Draft) (n : ℕ) (old new : Lines) (text : List ℕ) (number : ℕ) → TakesLine old new text number →
-    form_from d n (lines_of old.rest) ≡ go_on n (after_line d.place d n (words_of text)) (λ more. form_from more (n + 1) (lines_of new.rest))
+    form_from d n (lines_of old.rest) ≡ go_on n (after_line d.place d n (tokens_of text)) (λ more. form_from more (n + 1) (lines_of new.rest))
 takes_line d n old new text number h =
     ap (form_from d n) (lines_of-TakesLine h) ∙ first_of_lines d n text (lines_of new.rest) (some_part (λ byte. byte == 10) new.rest)
 
 module _ (d : Draft) (n m : ℕ) (old new : Lines) (text : List ℕ) (total : Result Draft Refusal) (h : TakesLine old new text n) (is : m ≡ old.number + 1)
     (so_far : form_from d m (lines_of old.rest) ≡ total) where
-  taken : go_on n (after_line d.place d n (words_of text)) (λ more. form_from more (n + 1) (lines_of new.rest)) ≡ total
+  taken : go_on n (after_line d.place d n (tokens_of text)) (λ more. form_from more (n + 1) (lines_of new.rest)) ≡ total
   taken = sym (takes_line d n old new text n h) ∙ ap (λ k. form_from d k (lines_of old.rest)) (h.told ∙ sym is) ∙ so_far
 
   -- what the whole has, after one line more
-  pub goes_on : (more : Draft) → after_line d.place d n (words_of text) ≡ Ok more → form_from more (n + 1) (lines_of new.rest) ≡ total
+  pub goes_on : (more : Draft) → after_line d.place d n (tokens_of text) ≡ Ok more → form_from more (n + 1) (lines_of new.rest) ≡ total
   goes_on more e = sym (ap (λ given. go_on n given (λ more. form_from more (n + 1) (lines_of new.rest))) e) ∙ taken
 
   -- a line's fault is the text's
-  pub line_refused : (fault : Fault) (after : Draft) (refusal : Refusal) → Takes (Err fault) after (after_line d.place d n (words_of text)) → fault_at n fault ≡ whole.Refused refusal → total ≡ Err refusal
+  pub line_refused : (fault : Fault) (after : Draft) (refusal : Refusal) → Takes (Err fault) after (after_line d.place d n (tokens_of text)) → fault_at n fault ≡ whole.Refused refusal → total ≡ Err refusal
   line_refused (Refused cause) after refusal takes e =
       let same : record { line = n; cause = cause } ≡ refusal = cc in
       sym taken ∙ ap (λ given. go_on n given (λ more. form_from more (n + 1) (lines_of new.rest))) takes ∙ ap Err same

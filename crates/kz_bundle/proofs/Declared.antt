@@ -1,13 +1,13 @@
--- Declarations of types that a text spells are in range.
+-- Declarations of types that a text spells are in range, and what their lines declare is sound.
 use Rattle.std.proofs.Common.{ℕ, zero, suc, ◌≤◌, List, length, All}
 use Rattle.std.proofs.lemmas.List.Elements.{All-weaker}
 use Rattle.kz_model.specs.declared.bundle.Kind.{Kind, Union', Row_of-Field, end_of-Field, more_of-Field}
 use Rattle.kz_model.specs.declared.bundle.Kind.TheVariants.{Ptr, Auth, U8, U16, U32, U64, Bytes, Struct}
 use Rattle.kz_model.specs.declared.bundle.Field.{Field}
 use Rattle.kz_model.specs.declared.bundle.TypeDecl.{TypeDecl}
-use Rattle.kz_model.specs.TypeLines.{IsTypeLine}
-use Rattle.kz_model.specs.Layouts.{IsSoundKind, AreSound, IsSoundField, AreInRange}
-use Rattle.kz_model.specs.Spelling.{IsKind, AreFields, IsField, IsDeclared}
+use Rattle.kz_model.specs.Store.TypeLines.{IsTypeLine}
+use Rattle.kz_model.specs.Types.Layouts.{IsSoundKind, AreSound, IsSoundField, AreInRange}
+use Rattle.kz_model.specs.Grammar.Spelling.{IsKind, AreFields, IsField, IsDeclared}
 use Rattle.kz_bundle.proofs.TypeTexts.{type_says}
 
 -- what a type line declares has names that are names, and numbers in their ranges
@@ -31,8 +31,12 @@ mutual
   sound_row deep end_of-Field are = tt
   sound_row deep (more_of-Field kind name count rest) are = (sound_kind deep kind are.0.0, are.0.2, sound_row deep rest are.1)
 
-pub sound_field : (deep : ℕ) (f : Field) → IsField deep f → IsSoundField deep f
+sound_field : (deep : ℕ) (f : Field) → IsField deep f → IsSoundField deep f
 sound_field deep f is = record { kind = sound_kind deep f.kind is.0; count = is.2 }
+
+-- and its fields are sound
+pub line_sound : (line : List ℕ) (decl : TypeDecl) → IsTypeLine line decl → All (IsSoundField 8) decl.fields
+line_sound line decl is = All-weaker (IsField 8) (IsSoundField 8) (sound_field 8) decl.fields (type_line-IsDeclared line decl is).1
 
 -- so few declarations are in the range of the layouts
 pub declared-AreInRange : (types : List TypeDecl) → length types ≤ 1024 → All IsDeclared types → AreInRange types

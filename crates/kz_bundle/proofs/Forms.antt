@@ -3,39 +3,39 @@ use Rattle.std.proofs.Common.{◌≡◌, ◌≢◌, ℕ, Bor, List, [], ◌∷�
 use Rattle.std.proofs.lemmas.Bool.{cond-false}
 use Rattle.kz_model.specs.declared.grammar.Place.{Place}
 use Rattle.kz_model.specs.declared.grammar.Place.TheVariants.{Header, Types, Steps, Order, Ended}
-use Rattle.kz_model.specs.Tokens.{words_of, is, is_name}
-use Rattle.kz_model.specs.Steps.{step_of_2, step_of_3, step_of_4, step_line}
+use Rattle.kz_model.specs.Grammar.Tokens.{tokens_of, is, is_name}
+use Rattle.kz_model.specs.Grammar.Steps.{step_of_2, step_of_3, step_of_4, step_line}
 use Rattle.std.proofs.Math.Bool.{and-false}
-use Rattle.kz_model.specs.Form.{Draft, as_line, Does, is_head, header_line, cpu_line, line_of_types, line_of_steps, line_of_order, line_at, judged, after_line}
-use Rattle.kz_bundle.specs.declared.words.LineWords.{LineWords}
-use Rattle.kz_bundle.specs.declared.words.LineWords.TheVariants.{One, Two, Three, Four, More}
+use Rattle.kz_model.specs.Grammar.Form.{Draft, as_line, Does, is_head, header_line, cpu_line, line_of_types, line_of_steps, line_of_order, line_at, judged, after_line}
+use Rattle.kz_bundle.specs.declared.form.tokens.LineTokens.{LineTokens}
+use Rattle.kz_bundle.specs.declared.form.tokens.LineTokens.TheVariants.{One, Two, Three, Four, More}
 use Rattle.kz_bundle.specs.Cut.{list_of, AreWords, AreMany, HasNoName}
 use Rattle.kz_model.specs.declared.grammar.Mark.{Mark}
-use Rattle.kz_bundle.specs.declared.lines.Line.{Line}
-use Rattle.kz_bundle.specs.declared.reader.Reader.{Reader}
+use Rattle.kz_bundle.specs.declared.form.lines.Line.{Line}
+use Rattle.kz_bundle.specs.declared.form.reader.Reader.{Reader}
 use Rattle.kz_bundle.specs.Lines.{Fits, FitsSteps}
 use Rattle.kz_bundle.specs.Reading.{FoundFits}
 
 -- a function that tells five words or more by the first alone
 same_line : {X : Type 0} (f : List (List ℕ) → X) → ((first second third fourth fifth : List ℕ) (others : List (List ℕ)) →
-    f (first ∷ [] ∷ [] ∷ [] ∷ [] ∷ []) ≡ f (first ∷ second ∷ third ∷ fourth ∷ fifth ∷ others)) → (words : LineWords) (all : List (List ℕ)) → AreWords words all → f (list_of words) ≡ f all
+    f (first ∷ [] ∷ [] ∷ [] ∷ [] ∷ []) ≡ f (first ∷ second ∷ third ∷ fourth ∷ fifth ∷ others)) → (words : LineTokens) (all : List (List ℕ)) → AreWords words all → f (list_of words) ≡ f all
 same_line f by (One w) all h = ap f (sym h)
 same_line f by (Two w x) all h = ap f (sym h)
 same_line f by (Three w x y) all h = ap f (sym h)
 same_line f by (Four w x y v) all h = ap f (sym h)
 same_line f by (More w) all h = by w.now h.second h.third h.fourth h.fifth h.others ∙ ap f (sym h.all)
 
-pub same_header : (at : ℕ) (words : LineWords) (all : List (List ℕ)) → AreWords words all → header_line at (list_of words) ≡ header_line at all
+pub same_header : (at : ℕ) (words : LineTokens) (all : List (List ℕ)) → AreWords words all → header_line at (list_of words) ≡ header_line at all
 same_header at words all h = same_line (header_line at) (λ a b c d e f. refl) words all h
 
-pub same_cpu : (cpu : ℕ) (words : LineWords) (all : List (List ℕ)) → AreWords words all → cpu_line cpu (list_of words) ≡ cpu_line cpu all
+pub same_cpu : (cpu : ℕ) (words : LineTokens) (all : List (List ℕ)) → AreWords words all → cpu_line cpu (list_of words) ≡ cpu_line cpu all
 same_cpu cpu words all h = same_line (cpu_line cpu) (λ a b c d e f. refl) words all h
 
-pub same_order : (d : Draft) (words : LineWords) (all : List (List ℕ)) → AreWords words all → line_of_order d (list_of words) ≡ line_of_order d all
+pub same_order : (d : Draft) (words : LineTokens) (all : List (List ℕ)) → AreWords words all → line_of_order d (list_of words) ≡ line_of_order d all
 same_order d words all h = same_line (line_of_order d) (λ a b c d e f. refl) words all h
 
 -- the first word of a line that is cut
-pub first_word : (text first word : List ℕ) (rest : Option (Bor (List ℕ))) → MatchOption rest (words_of text ≡ first ∷ []) (λ rest. words_of text ≡ first ∷ words_of rest.now) → is_head word (words_of text) ≡ is word first
+pub first_word : (text first word : List ℕ) (rest : Option (Bor (List ℕ))) → MatchOption rest (tokens_of text ≡ first ∷ []) (λ rest. tokens_of text ≡ first ∷ tokens_of rest.now) → is_head word (tokens_of text) ≡ is word first
 first_word text first word None h = ap (is_head word) h
 first_word text first word (Some rest) h = ap (is_head word) h
 

@@ -3,9 +3,10 @@ use Rattle.std.proofs.Common.{◌≡◌, ℕ, suc, ◌+◌, ◌*◌, ◌/◌, �
 use Rattle.std.specs.Fmt.{digit_glyph}
 use Rattle.std.specs.List.{list_all}
 use Rattle.std.proofs.lemmas.List.Elements.{All-nil, All-cons, All-head, All-tail}
-use Rattle.kz_model.specs.Tokens.{is_hex_digit, hex_digit, is_hex, bytes_of_hex}
-use Rattle.kz_model.specs.Text.{hex_bytes}
-use Rattle.kz_model.specs.Spelling.{IsFrom, IsPieceByte}
+use Rattle.kz_model.specs.Grammar.Tokens.{is_hex_digit, hex_digit, is_hex, bytes_of_hex}
+use Rattle.kz_model.specs.Text.Lines.{hex_bytes}
+use Rattle.kz_model.specs.Grammar.Spelling.{IsFrom, IsPieceByte}
+use Rattle.kz_text.proofs.HexBytes.{length-bytes_of_hex}
 use Rattle.kz_bundle.proofs.Choices.{left, right, and_true, all_weaker}
 use Rattle.kz_bundle.proofs.Splits.{is_dark, dark}
 
@@ -67,11 +68,6 @@ bytes_small (high ∷ low ∷ others) digits =
     All-cons IsPieceByte (16 * hex_digit high + hex_digit low) (bytes_of_hex others) (byte_small (hex_digit high) (hex_digit low) (digit_small high first) (digit_small low second))
     (bytes_small others (right (is_hex_digit low) (list_all is_hex_digit others) more))
 
-length_read : (text : List ℕ) → length (bytes_of_hex text) ≡ length text / 2
-length_read [] = refl
-length_read (high ∷ []) = refl
-length_read (high ∷ low ∷ others) = let rest = length_read others in omega arith
-
 few : (n m : ℕ) → n ≡ m / 2 → nat_le 2 m ≡ true → nat_le m 64 ≡ true → IsFrom 1 32 n
 few n m half low high = (more m half low, less m half high)
   where
@@ -88,7 +84,7 @@ hex_is text e =
     let digits = right (nat_le 2 n && nat_le n 64 && (n % 2 == 0)) (list_all is_hex_digit text) e in
     let two = left (nat_le 2 n && nat_le n 64) (n % 2 == 0) three in (
       again text (right (nat_le 2 n && nat_le n 64) (n % 2 == 0) three) digits,
-      few (length (bytes_of_hex text)) n (length_read text) (left (nat_le 2 n) (nat_le n 64) two) (right (nat_le 2 n) (nat_le n 64) two),
+      few (length (bytes_of_hex text)) n (length-bytes_of_hex text) (left (nat_le 2 n) (nat_le n 64) two) (right (nat_le 2 n) (nat_le n 64) two),
       bytes_small text digits,
     )
 

@@ -8,7 +8,7 @@ use Rattle.std.proofs.lemmas.Bool.{cases_Bool, cases_lt, cond-true, cond-false}
 use Rattle.std.proofs.lemmas.Bool.Decides.{Decides-eqb, same_from_decides}
 use Rattle.std.proofs.lemmas.List.Elements.{All-head, All-tail, All-from_get_or}
 use Rattle.std.proofs.lemmas.Map.Text.{hash_map_updates_str}
-use Rattle.kz_bundle.specs.declared.index.Index.{Index}
+use Rattle.kz_bundle.specs.declared.form.index.Index.{Index}
 use Rattle.kz_bundle.specs.Table.{AreBytes, key_of, found}
 
 -- the elements of a slice of bytes

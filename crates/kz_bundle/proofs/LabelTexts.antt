@@ -6,9 +6,10 @@ use Rattle.std.proofs.lemmas.List.{take_at, drop_at, get_or_push, length_push}
 use Rattle.kz_model.specs.declared.bundle.Kind.{Kind}
 use Rattle.kz_model.specs.declared.grammar.Mark.{Mark}
 use Rattle.kz_model.specs.declared.grammar.Mark.TheVariants.{Fine}
-use Rattle.kz_model.specs.Tokens.{is_name, is_digit, is_run, number_in}
-use Rattle.kz_model.specs.Body.{Body, ends_with, without_last, label, with_field, labelled}
-use Rattle.kz_model.specs.Spelling.{label_text, IsName, IsFrom}
+use Rattle.kz_model.specs.Grammar.Tokens.{is_name, is_digit, is_run, number_in}
+use Rattle.kz_model.specs.Grammar.TypeLine.{ends_with, without_last, label}
+use Rattle.kz_bundle.specs.BodyStates.{Body, with_field, labelled}
+use Rattle.kz_model.specs.Grammar.Spelling.{label_text, IsName, IsFrom}
 use Rattle.kz_bundle.proofs.Choices.{wrong, left, right, and_true, or_left, or_right, or_false, equal, itself, is_below, found_same, chosen, only, none_any, all_append, HasLast, has_last}
 use Rattle.kz_bundle.proofs.Splits.{dark}
 use Rattle.kz_bundle.proofs.NumberTexts.{in_word, ranged_is, number_in-decimal, decimal_run, decimal_dark, decimal_digits}

@@ -3,7 +3,7 @@ pub mod Turns
 pub mod OrderTurns
 pub mod AllRounds
 pub mod Table
-pub mod Rowing
+pub mod EntryRows
 pub mod Named
 pub mod NameCuts
 pub mod NameStage
@@ -21,10 +21,10 @@ pub mod Walking
 pub mod UnionRows
 pub mod LabelTexts
 pub mod BodyReads
-pub mod BodyInk
+pub mod BodyBytes
 pub mod BodySays
 pub mod Declared
-pub mod SaidLines
+pub mod NamedStepLines
 pub mod OneText
 pub mod ValidLines
 pub mod ValidNames
@@ -37,11 +37,10 @@ pub mod Forms
 pub mod Cutting
 pub mod Whole
 pub mod Labels
-pub mod Bodies
-pub mod Layings
 pub mod Printed
+pub mod Grammar
 pub mod Outlines
 pub mod Zoned
+pub mod InRange
 pub mod Counting
-pub mod KindLines
 pub mod Keys

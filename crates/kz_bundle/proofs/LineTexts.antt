@@ -9,18 +9,18 @@ use Rattle.kz_model.specs.declared.grammar.Mark.{Mark}
 use Rattle.kz_model.specs.declared.grammar.Mark.TheVariants.{Fine}
 use Rattle.kz_model.specs.declared.grammar.Place.{Place}
 use Rattle.kz_model.specs.declared.grammar.Place.TheVariants as place
-use Rattle.kz_model.specs.Tokens.{words_of, is, is_digit, is_run, number_in}
-use Rattle.kz_model.specs.Steps.{Said, Alloc, AllocZero, Free, FreeAs, Give, Take, Read, Write, Flush, Trim, number_line, step_line}
-use Rattle.kz_model.specs.Body.{type_line}
-use Rattle.kz_model.specs.Form.{Line, Machine, SeedOf, Cpus, Frames, Pages, Budget, Magazine, Depot, Declares, Opens, Does, Break, Orders, Turns, Ends, Draft, is_last, is_head, is_alone, as_line, seed_of, seed_line, header_line, cpu_line, line_of_types, line_of_steps, turn_line, line_of_order, line_at}
-use Rattle.kz_model.specs.Text.{hex_bytes}
-use Rattle.kz_model.specs.Spelling.{spaced, numbered, seed_text, said_text, line_text, IsName, IsSaid, IsFrom, IsSeed, IsAllowed}
+use Rattle.kz_model.specs.Grammar.Tokens.{tokens_of, is, is_digit, is_run, number_in}
+use Rattle.kz_model.specs.Grammar.Steps.{NamedStep, Alloc, AllocZero, Free, FreeAs, Give, Take, Read, Write, Flush, Trim, number_line, step_line}
+use Rattle.kz_model.specs.Grammar.TypeLine.{type_line}
+use Rattle.kz_model.specs.Grammar.Form.{Line, Machine, SeedOf, Cpus, Frames, Pages, Budget, Magazine, Depot, Declares, Opens, Does, Break, Orders, Turns, Ends, Draft, is_last, is_head, is_alone, as_line, seed_of, seed_line, header_line, cpu_line, line_of_types, line_of_steps, turn_line, line_of_order, line_at}
+use Rattle.kz_model.specs.Text.Lines.{hex_bytes}
+use Rattle.kz_model.specs.Grammar.Spelling.{spaced, numbered, seed_text, named_step_text, line_text, IsName, IsNamedStep, IsFrom, IsSeed, IsAllowed}
 use Rattle.kz_bundle.proofs.Choices.{wrong, left, right, not_so, equal, found_same, none_found, all_append, chosen, only, is_same}
 use Rattle.kz_bundle.proofs.Splits.{dark, inked, inked_dark, last_word}
 use Rattle.kz_bundle.proofs.NumberTexts.{in_word, number_in_is, number_in-decimal, decimal_run, decimal_dark, decimal_digits}
 use Rattle.kz_bundle.proofs.NameTexts.{name_dark}
 use Rattle.kz_bundle.proofs.HexTexts.{hex_dark}
-use Rattle.kz_bundle.proofs.StepTexts.{one_word, two_words, spaced_words, number_line_is, number_line_reads, step_says, words_of-said, said_words, step_reads}
+use Rattle.kz_bundle.proofs.StepTexts.{one_word, two_words, spaced_words, number_line_is, number_line_reads, step_says, tokens_of-said, said_words, step_reads}
 use Rattle.kz_bundle.proofs.TypeTexts.{type_says, type_words, type_reads, type_inked}
 
 -- ---- what a line says
@@ -45,10 +45,10 @@ is_line p d text a line e says = subst (Says p d text) (ap (λ (l : Line × Mark
 exactly : (n k : ℕ) → IsFrom k k n → n ≡ k
 exactly n k h = omega (arith, h.0, h.1)
 
-seed_found : (text : List ℕ) (seed : Seed) → seed_line (words_of text) ≡ marked seed Fine → (text ≡ seed_text seed) × IsSeed seed
-seed_found text seed e = by_words (words_of text) refl e
+seed_found : (text : List ℕ) (seed : Seed) → seed_line (tokens_of text) ≡ marked seed Fine → (text ≡ seed_text seed) × IsSeed seed
+seed_found text seed e = by_words (tokens_of text) refl e
   where
-    by_words : (words : List (List ℕ)) → words_of text ≡ words → seed_line words ≡ marked seed Fine → (text ≡ seed_text seed) × IsSeed seed
+    by_words : (words : List (List ℕ)) → tokens_of text ≡ words → seed_line words ≡ marked seed Fine → (text ≡ seed_text seed) × IsSeed seed
     by_words [] cut e = none_found (seed, Fine) e
     by_words (w ∷ []) cut e = none_found (seed, Fine) e
     by_words (w ∷ n ∷ []) cut e =
@@ -71,16 +71,16 @@ seed_found text seed e = by_words (words_of text) refl e
 
 module _ (at : ℕ) (d : Draft) (text : List ℕ) (line : Line) where
   header_number : (word : List ℕ) (low high k : ℕ) (f : ℕ → Line) → ((n : ℕ) → (text ≡ numbered word n) → at ≡ k → IsFrom low high n → Says (place.Header at) d text (f n)) →
-      at ≡ k → as_line f (number_line word low high (words_of text)) ≡ marked line Fine → Says (place.Header at) d text line
+      at ≡ k → as_line f (number_line word low high (tokens_of text)) ≡ marked line Fine → Says (place.Header at) d text line
   header_number word low high k f says here e =
-      as_line_is f (number_line word low high (words_of text)) (place.Header at) d text line e (λ n found.
+      as_line_is f (number_line word low high (tokens_of text)) (place.Header at) d text line e (λ n found.
       let is = number_line_is word low high text n found in
       says n is.0 here is.1)
 
-  header_says : at ≤ 7 → header_line at (words_of text) ≡ marked line Fine → Says (place.Header at) d text line
+  header_says : at ≤ 7 → header_line at (tokens_of text) ≡ marked line Fine → Says (place.Header at) d text line
   header_says most =
       chosen (at == 0) _ _ _ (λ t. header_number (codes "machine") 1 1 0 Machine (λ n e here is. (e, (here, exactly n 1 is))) (equal at 0 t))
-      (λ f0. chosen (at == 1) _ _ _ (λ t e. as_line_is SeedOf (seed_line (words_of text)) (place.Header at) d text line e (λ seed found. let is = seed_found text seed found in (is.0, (equal at 1 t, is.1))))
+      (λ f0. chosen (at == 1) _ _ _ (λ t e. as_line_is SeedOf (seed_line (tokens_of text)) (place.Header at) d text line e (λ seed found. let is = seed_found text seed found in (is.0, (equal at 1 t, is.1))))
       (λ f1. chosen (at == 2) _ _ _ (λ t. header_number (codes "cpus") 1 16 2 Cpus (λ n e here is. (e, (here, is))) (equal at 2 t))
       (λ f2. chosen (at == 3) _ _ _ (λ t. header_number (codes "frames") 1 8192 3 Frames (λ n e here is. (e, (here, is))) (equal at 3 t))
       (λ f3. chosen (at == 4) _ _ _ (λ t. header_number (codes "pages") 1 4096 4 Pages (λ n e here is. (e, (here, is))) (equal at 4 t))
@@ -91,24 +91,24 @@ module _ (at : ℕ) (d : Draft) (text : List ℕ) (line : Line) where
       last : (at : ℕ) → at ≤ 7 → (at == 0) ≡ false → (at == 1) ≡ false → (at == 2) ≡ false → (at == 3) ≡ false → (at == 4) ≡ false → (at == 5) ≡ false → (at == 6) ≡ false → at ≡ 7
       last at most f0 f1 f2 f3 f4 f5 f6 = grind arith
 
-cpu_says : (p : Place) (cpu : ℕ) (d : Draft) (text : List ℕ) (line : Line) → cpu_line cpu (words_of text) ≡ marked line Fine →
+cpu_says : (p : Place) (cpu : ℕ) (d : Draft) (text : List ℕ) (line : Line) → cpu_line cpu (tokens_of text) ≡ marked line Fine →
     ((n : ℕ) → n ≡ cpu → IsAllowed p d (Opens n)) → Says p d text line
 cpu_says p cpu d text line e allowed =
-    as_line_is Opens (number_line (codes "cpu") cpu cpu (words_of text)) p d text line e (λ n found.
+    as_line_is Opens (number_line (codes "cpu") cpu cpu (tokens_of text)) p d text line e (λ n found.
     let is = number_line_is (codes "cpu") cpu cpu text n found in
     (is.0, allowed n (exactly n cpu is.1)))
 
-types_says : (d : Draft) (text : List ℕ) (line : Line) → line_of_types (words_of text) ≡ marked line Fine → Says place.Types d text line
+types_says : (d : Draft) (text : List ℕ) (line : Line) → line_of_types (tokens_of text) ≡ marked line Fine → Says place.Types d text line
 types_says d text line =
-    chosen (is_head (codes "type") (words_of text)) _ _ _
-    (λ t e. as_line_is Declares (type_line (words_of text)) place.Types d text line e (λ decl found. type_says text decl found))
+    chosen (is_head (codes "type") (tokens_of text)) _ _ _
+    (λ t e. as_line_is Declares (type_line (tokens_of text)) place.Types d text line e (λ decl found. type_says text decl found))
     (λ f e. cpu_says place.Types 0 d text line e (λ n same. same))
 
 -- the one word of a line
-alone_is : (word text : List ℕ) → is_alone word (words_of text) ≡ true → text ≡ word
-alone_is word text e = by_words (words_of text) refl e
+alone_is : (word text : List ℕ) → is_alone word (tokens_of text) ≡ true → text ≡ word
+alone_is word text e = by_words (tokens_of text) refl e
   where
-    by_words : (words : List (List ℕ)) → words_of text ≡ words → is_alone word words ≡ true → text ≡ word
+    by_words : (words : List (List ℕ)) → tokens_of text ≡ words → is_alone word words ≡ true → text ≡ word
     by_words [] cut e = wrong e
     by_words (w ∷ []) cut e = one_word text w cut ∙ is_same word w e
     by_words (w ∷ x ∷ words) cut e = wrong e
@@ -117,24 +117,24 @@ not_last : (b : Bool) → b ≡ false → IsTrue b → ⊥
 not_last true f e = wrong (sym f)
 not_last false f e = wrong e
 
-steps_says : (d : Draft) (text : List ℕ) (line : Line) → line_of_steps d (words_of text) ≡ marked line Fine → Says place.Steps d text line
+steps_says : (d : Draft) (text : List ℕ) (line : Line) → line_of_steps d (tokens_of text) ≡ marked line Fine → Says place.Steps d text line
 steps_says d text line =
-    chosen (is_alone (codes "--") (words_of text)) _ _ _
+    chosen (is_alone (codes "--") (tokens_of text)) _ _ _
     (λ t e. is_line place.Steps d text Break line e (alone_is (codes "--") text t, tt))
-    (λ f. chosen (is_alone (codes "end") (words_of text) && is_last d) _ _ _
-    (λ t e. is_line place.Steps d text Ends line e (alone_is (codes "end") text (left (is_alone (codes "end") (words_of text)) (is_last d) t), right (is_alone (codes "end") (words_of text)) (is_last d) t))
-    (λ f. chosen (is_alone (codes "order") (words_of text) && is_last d) _ _ _
-    (λ t e. is_line place.Steps d text Orders line e (alone_is (codes "order") text (left (is_alone (codes "order") (words_of text)) (is_last d) t), right (is_alone (codes "order") (words_of text)) (is_last d) t))
-    (λ f. chosen (is_head (codes "cpu") (words_of text)) _ _ _
+    (λ f. chosen (is_alone (codes "end") (tokens_of text) && is_last d) _ _ _
+    (λ t e. is_line place.Steps d text Ends line e (alone_is (codes "end") text (left (is_alone (codes "end") (tokens_of text)) (is_last d) t), right (is_alone (codes "end") (tokens_of text)) (is_last d) t))
+    (λ f. chosen (is_alone (codes "order") (tokens_of text) && is_last d) _ _ _
+    (λ t e. is_line place.Steps d text Orders line e (alone_is (codes "order") text (left (is_alone (codes "order") (tokens_of text)) (is_last d) t), right (is_alone (codes "order") (tokens_of text)) (is_last d) t))
+    (λ f. chosen (is_head (codes "cpu") (tokens_of text)) _ _ _
     (λ t. chosen (is_last d) _ _ _
     (λ l e. none_found (line, Fine) e)
     (λ l e. cpu_says place.Steps (length d.before + 1) d text line e (λ n same. (not_last (is_last d) l, same))))
-    (λ f e. as_line_is Does (step_line d.header.cpus (words_of text)) place.Steps d text line e (λ said found. step_says d.header.cpus text said found)))))
+    (λ f e. as_line_is Does (step_line d.header.cpus (tokens_of text)) place.Steps d text line e (λ said found. step_says d.header.cpus text said found)))))
 
-turn_found : (cpus : ℕ) (text : List ℕ) (n : ℕ) → turn_line cpus (words_of text) ≡ marked n Fine → (text ≡ decimal n) × IsFrom 0 (cpus - 1) n
-turn_found cpus text n e = by_words (words_of text) refl e
+turn_found : (cpus : ℕ) (text : List ℕ) (n : ℕ) → turn_line cpus (tokens_of text) ≡ marked n Fine → (text ≡ decimal n) × IsFrom 0 (cpus - 1) n
+turn_found cpus text n e = by_words (tokens_of text) refl e
   where
-    by_words : (words : List (List ℕ)) → words_of text ≡ words → turn_line cpus words ≡ marked n Fine → (text ≡ decimal n) × IsFrom 0 (cpus - 1) n
+    by_words : (words : List (List ℕ)) → tokens_of text ≡ words → turn_line cpus words ≡ marked n Fine → (text ≡ decimal n) × IsFrom 0 (cpus - 1) n
     by_words [] cut e = none_found (n, Fine) e
     by_words (w ∷ []) cut e =
         only (is_run w) (Some (number_in 0 (cpus - 1) w)) (n, Fine) (λ run e.
@@ -142,13 +142,13 @@ turn_found cpus text n e = by_words (words_of text) refl e
         (one_word text w cut ∙ is.0, is.1)) e
     by_words (w ∷ x ∷ words) cut e = none_found (n, Fine) e
 
-order_says : (d : Draft) (text : List ℕ) (line : Line) → line_of_order d (words_of text) ≡ marked line Fine → Says place.Order d text line
+order_says : (d : Draft) (text : List ℕ) (line : Line) → line_of_order d (tokens_of text) ≡ marked line Fine → Says place.Order d text line
 order_says d text line =
-    chosen (is_alone (codes "--") (words_of text)) _ _ _
+    chosen (is_alone (codes "--") (tokens_of text)) _ _ _
     (λ t e. is_line place.Order d text Break line e (alone_is (codes "--") text t, tt))
-    (λ f. chosen (is_alone (codes "end") (words_of text)) _ _ _
+    (λ f. chosen (is_alone (codes "end") (tokens_of text)) _ _ _
     (λ t e. is_line place.Order d text Ends line e (alone_is (codes "end") text t, tt))
-    (λ f e. as_line_is Turns (turn_line d.header.cpus (words_of text)) place.Order d text line e (λ n found. turn_found d.header.cpus text n found)))
+    (λ f e. as_line_is Turns (turn_line d.header.cpus (tokens_of text)) place.Order d text line e (λ n found. turn_found d.header.cpus text n found)))
 
 -- the header has eight lines
 abbrev pub InHeader : Place → Type 0
@@ -156,7 +156,7 @@ InHeader (place.Header at) = at ≤ 7
 InHeader place = Unit {0}
 
 -- what is read is the text of a line that may stand here
-pub line_says : (p : Place) (d : Draft) (text : List ℕ) (line : Line) → InHeader p → line_at p d (words_of text) ≡ marked line Fine → Says p d text line
+pub line_says : (p : Place) (d : Draft) (text : List ℕ) (line : Line) → InHeader p → line_at p d (tokens_of text) ≡ marked line Fine → Says p d text line
 line_says (place.Header at) d text line most e = header_says at d text line most e
 line_says place.Types d text line most e = types_says d text line e
 line_says place.Steps d text line most e = steps_says d text line e
@@ -175,17 +175,17 @@ no_number c word (d ∷ digits) other e =
     apart : (d c : ℕ) → is_digit d ≡ true → is_digit c ≡ false → eqb d c ≡ false
     apart d c e f = grind arith
 
-seed_reads : (seed : Seed) → IsSeed seed → seed_line (words_of (seed_text seed)) ≡ marked seed Fine
+seed_reads : (seed : Seed) → IsSeed seed → seed_line (tokens_of (seed_text seed)) ≡ marked seed Fine
 seed_reads Plain is = refl
 seed_reads (Number n) is =
     let number = number_in-decimal 0 (2 ^ 64 - 1) n (omega arith, omega arith) (omega arith) in
     ap seed_line (spaced_words (codes "seed") (decimal n) (decimal n ∷ []) refl (last_word (decimal n) (decimal_dark n is)))
     ∙ rw (decimal_run n is, no_number 112 (codes "lain") (decimal n) refl (decimal_digits n is), number) refl
 
-header_reads : (at k : ℕ) (d : Draft) (line : Line) → at ≡ k → header_line k (words_of (line_text line)) ≡ marked line Fine → line_at (place.Header at) d (words_of (line_text line)) ≡ marked line Fine
-header_reads at k d line here e = subst (λ k. header_line k (words_of (line_text line)) ≡ marked line Fine) (sym here) e
+header_reads : (at k : ℕ) (d : Draft) (line : Line) → at ≡ k → header_line k (tokens_of (line_text line)) ≡ marked line Fine → line_at (place.Header at) d (tokens_of (line_text line)) ≡ marked line Fine
+header_reads at k d line here e = subst (λ k. header_line k (tokens_of (line_text line)) ≡ marked line Fine) (sym here) e
 
-does_reads : (d : Draft) (said : Said) → d.header.cpus ≤ 2 ^ 64 → IsSaid d.header.cpus said → line_of_steps d (said_words said) ≡ marked (Does said) Fine
+does_reads : (d : Draft) (said : NamedStep) → d.header.cpus ≤ 2 ^ 64 → IsNamedStep d.header.cpus said → line_of_steps d (said_words said) ≡ marked (Does said) Fine
 does_reads d (Alloc name of) small is = ap (as_line Does) (step_reads d.header.cpus (Alloc name of) small is)
 does_reads d (AllocZero name of) small is = ap (as_line Does) (step_reads d.header.cpus (AllocZero name of) small is)
 does_reads d (Free name) small is = ap (as_line Does) (step_reads d.header.cpus (Free name) small is)
@@ -202,11 +202,11 @@ pub record Fits (d : Draft) : Type 0 where
   pub cpus : d.header.cpus ≤ 16
   pub before : length d.before ≤ 16
 
-two_of : (word : List ℕ) (n : ℕ) → dark word ≡ true → n < 2 ^ 64 → words_of (numbered word n) ≡ word ∷ decimal n ∷ []
+two_of : (word : List ℕ) (n : ℕ) → dark word ≡ true → n < 2 ^ 64 → tokens_of (numbered word n) ≡ word ∷ decimal n ∷ []
 two_of word n e small = spaced_words word (decimal n) (decimal n ∷ []) e (last_word (decimal n) (decimal_dark n small))
 
 -- a line that may stand here is read
-pub line_reads : (p : Place) (d : Draft) (line : Line) → Fits d → IsAllowed p d line → line_at p d (words_of (line_text line)) ≡ marked line Fine
+pub line_reads : (p : Place) (d : Draft) (line : Line) → Fits d → IsAllowed p d line → line_at p d (tokens_of (line_text line)) ≡ marked line Fine
 line_reads (place.Header at) d (Machine n) fits is =
     header_reads at 0 d (Machine n) is.0 (ap (as_line Machine) (number_line_reads (codes "machine") 1 1 n refl (omega (arith, is.1), omega (arith, is.1)) (omega arith)))
 line_reads (place.Header at) d (SeedOf seed) fits is = header_reads at 1 d (SeedOf seed) is.0 (ap (as_line SeedOf) (seed_reads seed is.1))
@@ -222,7 +222,7 @@ line_reads place.Types d (Opens cpu) fits is =
     ∙ ap (as_line Opens) (number_line_reads (codes "cpu") 0 0 cpu refl (omega arith, omega arith) (omega arith))
 line_reads place.Steps d (Does said) fits is =
     let small : d.header.cpus ≤ 2 ^ 64 = omega (arith, fits.cpus) in
-    ap (line_of_steps d) (words_of-said d.header.cpus said small is) ∙ does_reads d said small is
+    ap (line_of_steps d) (tokens_of-said d.header.cpus said small is) ∙ does_reads d said small is
 line_reads place.Steps d Break fits is = refl
 line_reads place.Steps d (Opens cpu) fits is =
     let small : length d.before + 1 < 2 ^ 64 = omega (arith, fits.before) in
@@ -257,7 +257,7 @@ name_inked name is = inked_dark name (name_dark name is)
 number_inked : (low high n : ℕ) → IsFrom low high n → high < 2 ^ 64 → inked (decimal n) ≡ true
 number_inked low high n is small = inked_dark (decimal n) (decimal_dark n (in_word low high n is small))
 
-said_inked : (cpus : ℕ) (said : Said) → cpus ≤ 2 ^ 64 → IsSaid cpus said → inked (said_text said) ≡ true
+said_inked : (cpus : ℕ) (said : NamedStep) → cpus ≤ 2 ^ 64 → IsNamedStep cpus said → inked (named_step_text said) ≡ true
 said_inked cpus (Alloc name of) small is = spaced_inked (codes "a") (spaced name of) refl (spaced_inked name of (name_inked name is.0) (name_inked of is.1))
 said_inked cpus (AllocZero name of) small is = spaced_inked (codes "z") (spaced name of) refl (spaced_inked name of (name_inked name is.0) (name_inked of is.1))
 said_inked cpus (Free name) small is = spaced_inked (codes "f") name refl (name_inked name is)

@@ -9,13 +9,14 @@ use Rattle.std.proofs.lemmas.Bool.{cases_Bool, cond-true, cond-false, or_parts}
 use Rattle.std.proofs.lemmas.List.{length-map, get_or-map}
 use Rattle.kz_model.specs.declared.bundle.TypeDecl.{TypeDecl}
 use Rattle.kz_model.specs.declared.grammar.Refusal.{Refusal}
-use Rattle.kz_model.specs.Form.{Section}
-use Rattle.kz_model.specs.Layouts.{names_of, place_of as option_place}
-use Rattle.kz_model.specs.Stages.{names_from, names_fault, rows_of, lines_from, has, place_of}
-use Rattle.kz_bundle.specs.declared.parts.Part.{Part}
-use Rattle.kz_bundle.specs.declared.parts.Parts.{Parts}
-use Rattle.kz_bundle.specs.Parts.{texts, section_meant, draft_of, AreParts}
-use Rattle.kz_model.specs.Spelling.{text_at}
+use Rattle.kz_model.specs.Grammar.Form.{Section}
+use Rattle.kz_model.specs.Types.Layouts.{names_of, place_of as option_place}
+use Rattle.kz_model.specs.Grammar.Stages.{names_from, names_fault, rows_of, lines_from, has, place_of}
+use Rattle.kz_bundle.specs.declared.form.parts.Part.{Part}
+use Rattle.kz_bundle.specs.declared.form.parts.Parts.{Parts}
+use Rattle.kz_model.specs.Grammar.Tokens.{texts}
+use Rattle.kz_bundle.specs.Parts.{section_meant, draft_of, AreParts}
+use Rattle.kz_model.specs.Grammar.Spelling.{text_at}
 use Rattle.kz_bundle.specs.Naming.{AreDeclared, MatchesDeclared}
 use Rattle.kz_bundle.specs.Rows.{Rows, ArePlacesOf}
 use Rattle.kz_bundle.specs.Numbers.{rows_in}

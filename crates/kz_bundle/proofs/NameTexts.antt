@@ -1,7 +1,7 @@
 -- Names as words.
 use Rattle.std.proofs.Common.{◌≡◌, ℕ, ◌==◌, ◌&&◌, true, false, nat_le, List, [], ◌∷◌, length, arith}
 use Rattle.std.specs.List.{list_all, list_any}
-use Rattle.kz_model.specs.Tokens.{is_name, is_name_byte, is_small}
+use Rattle.kz_model.specs.Grammar.Tokens.{is_name, is_name_byte, is_small}
 use Rattle.kz_bundle.proofs.Choices.{wrong, left, right, and_true, all_weaker, none_any}
 use Rattle.kz_bundle.proofs.Splits.{is_dark, dark}
 

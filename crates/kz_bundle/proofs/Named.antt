@@ -6,15 +6,15 @@ use Rattle.std.specs.Str.{bytes_eq}
 use Rattle.kz_model.specs.declared.grammar.Cause.TheVariants as cause
 use Rattle.kz_model.specs.declared.grammar.Counted.TheVariants as counted
 use Rattle.kz_model.specs.declared.grammar.Refusal.{Refusal}
-use Rattle.kz_model.specs.Steps.{Said}
-use Rattle.kz_model.specs.Spelling.{text_at}
-use Rattle.kz_model.specs.Stages.{Row, has, row_of, fault_if, else_fault, type_in, bound_fault}
-use Rattle.kz_bundle.specs.declared.entry.Entry.{Entry}
+use Rattle.kz_model.specs.Grammar.Steps.{NamedStep}
+use Rattle.kz_model.specs.Grammar.Spelling.{text_at}
+use Rattle.kz_model.specs.Grammar.Stages.{Row, has, row_of, fault_if, else_fault, type_in, bound_fault}
+use Rattle.kz_bundle.specs.declared.stages.entry.Entry.{Entry}
 use Rattle.kz_bundle.specs.Parts.{AreOnce}
 use Rattle.kz_bundle.specs.Naming.{AreDeclared, MatchesDeclared, type_fault}
-use Rattle.kz_bundle.proofs.Rowing.{others_differ}
+use Rattle.kz_bundle.proofs.EntryRows.{others_differ}
 
-pub unknown_type : (types words : List (List ℕ)) (declared : List (Option ℕ)) (word line : ℕ) (said : Said) → AreDeclared types words declared → word < length declared →
+pub unknown_type : (types words : List (List ℕ)) (declared : List (Option ℕ)) (word line : ℕ) (said : NamedStep) → AreDeclared types words declared → word < length declared →
     slice_index_or declared word None ≡ None → Some (text_at words word) ≡ type_in said → type_fault types line said ≡ Some (record { line = line; cause = cause.UnknownType })
 unknown_type types words declared word line said h there none is =
     let not_there : has (text_at words word) types ≡ false = subst (MatchesDeclared types (text_at words word)) none (h.each word (omega (arith, there, h.lengths))) in

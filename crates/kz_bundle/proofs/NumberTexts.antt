@@ -7,8 +7,8 @@ use Rattle.std.proofs.lemmas.Str.Parse.{IsNumeralModel, numerals_by_value}
 use Rattle.std.proofs.lemmas.Fmt.{decimal-digits_value, digits_decimal, digits_value-decimal, decimal_nonempty, length-decimal-le, first_decimal, decimal_digit}
 use Rattle.kz_model.specs.declared.grammar.Mark.{Mark}
 use Rattle.kz_model.specs.declared.grammar.Mark.TheVariants.{Fine, OutOfRange, BadNumber}
-use Rattle.kz_model.specs.Tokens.{is, is_digit, is_plain, is_run, is_decimal, number_of, ranged, number_in, is_between}
-use Rattle.kz_model.specs.Spelling.{IsFrom}
+use Rattle.kz_model.specs.Grammar.Tokens.{is, is_digit, is_plain, is_run, is_decimal, number_of, number_in_range, number_in, is_between}
+use Rattle.kz_model.specs.Grammar.Spelling.{IsFrom}
 use Rattle.kz_bundle.proofs.Choices.{wrong, left, right, and_true, below, within, is_below, is_within, found_same, only, all_weaker}
 use Rattle.kz_bundle.proofs.Splits.{is_dark, dark}
 
@@ -47,7 +47,7 @@ found b n = if b then (n, Fine) else (0, OutOfRange)
 pub ranged_is : (low high : ℕ) (text : List ℕ) → (number_in low high text).1 ≡ Fine → (text ≡ decimal (number_in low high text).0) × IsFrom low high (number_in low high text).0
 ranged_is low high text fine = by_number (number_of text) refl fine
   where
-    by_number : (o : Option ℕ) → number_of text ≡ o → (ranged low high o).1 ≡ Fine → (text ≡ decimal (ranged low high o).0) × IsFrom low high (ranged low high o).0
+    by_number : (o : Option ℕ) → number_of text ≡ o → (number_in_range low high o).1 ≡ Fine → (text ≡ decimal (number_in_range low high o).0) × IsFrom low high (number_in_range low high o).0
     by_number None e fine = absurd (bad_not_fine fine)
     by_number (Some n) e fine = by_range (is_between low high n) refl fine
       where

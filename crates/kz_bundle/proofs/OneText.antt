@@ -8,14 +8,14 @@ use Rattle.kz_model.specs.declared.grammar.Cause.{Cause}
 use Rattle.kz_model.specs.declared.grammar.Cause.TheVariants as cause
 use Rattle.kz_model.specs.declared.grammar.Place.TheVariants as place
 use Rattle.kz_model.specs.declared.grammar.Refusal.{Refusal}
-use Rattle.kz_model.specs.Tokens.{is}
-use Rattle.kz_model.specs.Steps.{Said, Alloc, AllocZero, Free, FreeAs, Give, Take, Read, Write, Flush, Trim}
-use Rattle.kz_model.specs.Form.{Line, Opens, Does, Break, Ends, Declares, SaidLine, Section, Draft, nothing_said}
-use Rattle.kz_model.specs.Stages.{else_fault, fault_if, Row, has, row_of, is_there, binds, type_in, name_in, gives_to, with_row, CpuLine, of_cpu, lines_from, sections_of, step_lines, rows_of, bound_fault, name_fault, names_from, type_names, types_fault, names_fault, rounds_from, rounds_of, order_fault, rounds_fault, later_fault, place_of, act_of, step_of, row_names, bundle_of}
-use Rattle.kz_model.specs.Text.{text_of_lines}
-use Rattle.kz_model.specs.Spelling.{line_text, text_at, said_of, section_lines, cpu_lines, order_lines, bundle_lines, OneText}
+use Rattle.kz_model.specs.Grammar.Tokens.{is}
+use Rattle.kz_model.specs.Grammar.Steps.{NamedStep, Alloc, AllocZero, Free, FreeAs, Give, Take, Read, Write, Flush, Trim}
+use Rattle.kz_model.specs.Grammar.Form.{Line, Opens, Does, Break, Ends, Declares, StepLine, Section, Draft, empty_draft}
+use Rattle.kz_model.specs.Grammar.Stages.{else_fault, fault_if, Row, has, row_of, is_there, binds, type_in, name_in, gives_to, with_row, CpuLine, of_cpu, lines_from, sections_of, step_lines, rows_of, bound_fault, name_fault, names_from, type_names, types_fault, names_fault, rounds_from, rounds_of, order_fault, rounds_fault, later_fault, place_of, act_of, step_of, row_names, bundle_of}
+use Rattle.kz_model.specs.Text.Lines.{text_of_lines}
+use Rattle.kz_model.specs.Grammar.Spelling.{line_text, text_at, named_step_of, section_lines, cpu_lines, order_lines, bundle_lines, OneText}
 use Rattle.kz_bundle.proofs.Choices.{wrong, equal, is_same}
-use Rattle.kz_bundle.proofs.SaidLines.{steps_said, section_said, sections_said, header_said, draft_said, said_is}
+use Rattle.kz_bundle.proofs.NamedStepLines.{steps_said, section_said, sections_said, header_said, draft_said, said_is}
 
 -- ---- no fault
 
@@ -65,8 +65,8 @@ named name (row ∷ rows) e =
 
 -- ---- what is said by number is what was said
 
-abbrev Again : List (List ℕ) → List (List ℕ) → Said → Type 0
-Again names types said = said_of names types (act_of types names said) ≡ said
+abbrev Again : List (List ℕ) → List (List ℕ) → NamedStep → Type 0
+Again names types said = named_step_of names types (act_of types names said) ≡ said
 
 module _ (types : List (List ℕ)) (all : List Row) where
   abbrev names : List (List ℕ)
@@ -78,11 +78,11 @@ module _ (types : List (List ℕ)) (all : List Row) where
   the_name : (line : ℕ) (name : List ℕ) → fault_if (not (is_there (row_of name all))) line cause.UnknownName ≡ None → text_at names (place_of name names) ≡ name
   the_name line name e = found_at name names (named name all (right_one (is_there (row_of name all)) line cause.UnknownName e))
 
-  both_again : (f : List ℕ → List ℕ → Said) (line : ℕ) (name of : List ℕ) → fault_if (not (has of types)) line cause.UnknownType ≡ None → fault_if (not (is_there (row_of name all))) line cause.UnknownName ≡ None →
+  both_again : (f : List ℕ → List ℕ → NamedStep) (line : ℕ) (name of : List ℕ) → fault_if (not (has of types)) line cause.UnknownType ≡ None → fault_if (not (is_there (row_of name all))) line cause.UnknownName ≡ None →
       f (text_at names (place_of name names)) (text_at types (place_of of types)) ≡ f name of
   both_again f line name of e g = ap (λ (name : List ℕ). f name (text_at types (place_of of types))) (the_name line name g) ∙ ap (f name) (the_type line of e)
 
-  by_said : (line : ℕ) (said : Said) → option_map_or {U = Option Refusal} (λ of. fault_if (not (has of types)) line cause.UnknownType) (type_in said) None ≡ None →
+  by_said : (line : ℕ) (said : NamedStep) → option_map_or {U = Option Refusal} (λ of. fault_if (not (has of types)) line cause.UnknownType) (type_in said) None ≡ None →
       option_map_or {U = Option Refusal} (λ name. fault_if (not (is_there (row_of name all))) line cause.UnknownName) (name_in said) None ≡ None → Again names types said
   by_said line (Alloc name of) e g = both_again Alloc line name of e g
   by_said line (AllocZero name of) e g = both_again AllocZero line name of e g
@@ -96,7 +96,7 @@ module _ (types : List (List ℕ)) (all : List Row) where
   by_said line (Trim of) e g = ap Trim (the_type line of e)
 
   -- each of these lines
-  abbrev AllAgain : List SaidLine → Type 0
+  abbrev AllAgain : List StepLine → Type 0
   AllAgain [] = Unit {0}
   AllAgain (line ∷ lines) = Again names types line.said × AllAgain lines
 
@@ -121,7 +121,7 @@ module _ (types : List (List ℕ)) (all : List Row) where
         lines_again (with_row rows line) lines (then_none (name_fault types all rows line) (names_from types all (with_row rows line) lines) e),
       )
 
-  split_again : (cpu : ℕ) (steps : List SaidLine) (more : List CpuLine) → AllLinesAgain (of_cpu cpu steps ++ more) → AllAgain steps × AllLinesAgain more
+  split_again : (cpu : ℕ) (steps : List StepLine) (more : List CpuLine) → AllLinesAgain (of_cpu cpu steps ++ more) → AllAgain steps × AllLinesAgain more
   split_again cpu [] more again = (tt, again)
   split_again cpu (step ∷ steps) more again = let rest = split_again cpu steps more again.1 in ((again.0, rest.0), rest.1)
 
@@ -175,14 +175,14 @@ module _ (d : Draft) where
   names_are [] = refl
   names_are (row ∷ rows) = ap (λ (more : List (List ℕ)). row.name ∷ more) (names_are rows)
 
-  steps_are : (round : ℕ) (steps : List SaidLine) → AllAgain types rows steps → section_lines (bundle_of d) round (map (step_of types (row_names rows)) steps) ≡ steps_said d.section.breaks round steps
+  steps_are : (round : ℕ) (steps : List StepLine) → AllAgain types rows steps → section_lines (bundle_of d) round (map (step_of types (row_names rows)) steps) ≡ steps_said d.section.breaks round steps
   steps_are round [] again = ap (λ n. replicate n Break) (same d.section.breaks round)
     where
       same : (n m : ℕ) → n + 1 - 1 - m ≡ n - m
       same n m = omega arith
   steps_are round (step ∷ steps) again =
-      ap (λ (said : Said). replicate (step.round - round) Break ++ Does said ∷ section_lines (bundle_of d) step.round (map (step_of types (row_names rows)) steps))
-      (ap (λ (names : List (List ℕ)). said_of names types (act_of types (row_names rows) step.said)) (names_are rows) ∙ again.0)
+      ap (λ (said : NamedStep). replicate (step.round - round) Break ++ Does said ∷ section_lines (bundle_of d) step.round (map (step_of types (row_names rows)) steps))
+      (ap (λ (names : List (List ℕ)). named_step_of names types (act_of types (row_names rows) step.said)) (names_are rows) ∙ again.0)
       ∙ ap (λ (more : List Line). replicate (step.round - round) Break ++ Does step.said ∷ more) (steps_are step.round steps again.1)
 
   abbrev trace_of : Section → List TraceStep
@@ -208,7 +208,7 @@ module _ (d : Draft) where
 -- a bundle has one text
 pub one_text : OneText
 one_text bytes b spells =
-    let said = said_is nothing_said 1 spells.lines spells.said (refl, refl, refl) spells.leads in
+    let said = said_is empty_draft 1 spells.lines spells.said (refl, refl, refl) spells.leads in
     spells.text
     ∙ ap (λ lines. text_of_lines (map line_text lines))
     (sym said ∙ ap (λ place. draft_said place spells.said) spells.ended ∙ sym (lines_are spells.said spells.faultless) ∙ ap bundle_lines (sym spells.bundle))

@@ -2,8 +2,8 @@
 use Rattle.std.proofs.Common.{◌≡◌, ℕ, ◌+◌, ◌-◌, ◌<◌, List, length}
 use Rattle.std.specs.List.{All}
 use Rattle.kz_model.specs.declared.bundle.OrderLine.{OrderLine}
-use Rattle.kz_model.specs.Form.{Section}
-use Rattle.kz_model.specs.Stages.{order_from, left_in}
+use Rattle.kz_model.specs.Grammar.Form.{Section}
+use Rattle.kz_model.specs.Grammar.Stages.{order_from, left_in}
 use Rattle.kz_bundle.specs.Parts.{IsTurnWithin}
 use Rattle.kz_bundle.specs.Rounds.{AreTables}
 

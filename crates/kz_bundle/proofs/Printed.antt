@@ -5,9 +5,9 @@ use Rattle.std.proofs.lemmas.List.{append-nil, drop_more, map-append}
 use Rattle.std.proofs.lemmas.Grind.{flat_map-append}
 use Rattle.kz_model.specs.declared.bundle.Bundle.{Bundle}
 use Rattle.kz_model.specs.declared.bundle.TypeDecl.{TypeDecl}
-use Rattle.kz_model.specs.Form.{Line, Machine, SeedOf, Cpus, Frames, Pages, Budget, Magazine, Depot, Declares, Break, Ends}
-use Rattle.kz_model.specs.Spelling.{line_text, numbered, seed_text, header_lines, cpu_lines, order_lines, bundle_text}
-use Rattle.kz_model.specs.TypeLines.{IsTypeLine, no_decl}
+use Rattle.kz_model.specs.Grammar.Form.{Line, Machine, SeedOf, Cpus, Frames, Pages, Budget, Magazine, Depot, Declares, Break, Ends}
+use Rattle.kz_model.specs.Grammar.Spelling.{line_text, numbered, seed_text, header_lines, cpu_lines, order_lines, bundle_text}
+use Rattle.kz_model.specs.Store.TypeLines.{IsTypeLine, no_decl}
 use Rattle.kz_bundle.specs.Printing.{lines_text}
 use Rattle.kz_bundle.proofs.TypeTexts.{type_says}
 

@@ -8,14 +8,15 @@ use Rattle.kz_model.specs.declared.bundle.Act.TheVariants as act
 use Rattle.kz_model.specs.declared.bundle.Bundle.{Bundle}
 use Rattle.kz_model.specs.declared.bundle.NameRow.{NameRow}
 use Rattle.kz_model.specs.declared.bundle.TraceStep.{TraceStep}
-use Rattle.kz_model.specs.Form.{Section}
-use Rattle.kz_model.specs.Spelling.{said_of, text_at}
-use Rattle.kz_model.specs.Stages.{act_of, step_of, row_names, rows_of, type_names, lines_from, place_of, bundle_of, Row}
-use Rattle.kz_model.specs.Traces.{AreNumbered, renumbered, renumbered_step}
-use Rattle.kz_bundle.specs.declared.numbers.Numbers.{Numbers}
-use Rattle.kz_bundle.specs.declared.parts.Part.{Part}
-use Rattle.kz_bundle.specs.declared.parts.Parts.{Parts}
-use Rattle.kz_bundle.specs.Parts.{texts, line_meant, section_meant, sections_meant, draft_of, AreParts, IsPart}
+use Rattle.kz_model.specs.Grammar.Form.{Section}
+use Rattle.kz_model.specs.Grammar.Spelling.{named_step_of, text_at}
+use Rattle.kz_model.specs.Grammar.Stages.{act_of, step_of, row_names, rows_of, type_names, lines_from, place_of, bundle_of, Row}
+use Rattle.kz_model.specs.Store.Traces.{AreNumbered, renumbered, renumbered_step}
+use Rattle.kz_bundle.specs.declared.stages.numbers.Numbers.{Numbers}
+use Rattle.kz_bundle.specs.declared.form.parts.Part.{Part}
+use Rattle.kz_bundle.specs.declared.form.parts.Parts.{Parts}
+use Rattle.kz_model.specs.Grammar.Tokens.{texts}
+use Rattle.kz_bundle.specs.Parts.{line_meant, section_meant, sections_meant, draft_of, AreParts, IsPart}
 use Rattle.kz_bundle.specs.Rows.{ArePlacesOf, name_row}
 use Rattle.kz_bundle.specs.Numbers.{rows_in, AreNumbers}
 use Rattle.kz_bundle.proofs.AllRounds.{sections_back, last_breaks}
@@ -26,7 +27,7 @@ record ArePlaced (names words : List (List ℕ)) (rows types : List (List ℕ)) 
   placed_words : ArePlacesOf types words of_words
 
 same_act : (names words rows types : List (List ℕ)) (of_names of_words : List ℕ) → ArePlaced names words rows types of_names of_words → (a : Act) → AreNumbered (length names) (length words) a →
-    renumbered of_names of_words a ≡ act_of types rows (said_of names words a)
+    renumbered of_names of_words a ≡ act_of types rows (named_step_of names words a)
 same_act names words rows types of_names of_words h (act.Alloc name of) lt =
     ap (λ n. act.Alloc n (slice_index of_words of)) (h.placed_names.1 name lt.0) ∙ ap (λ n. act.Alloc (place_of (text_at names name) rows) n) (h.placed_words.1 of lt.1)
 same_act names words rows types of_names of_words h (act.AllocZero name of) lt =

@@ -4,10 +4,10 @@ use Rattle.std.specs.Prelude.{slice_index_or}
 use Rattle.std.proofs.lemmas.List.{drop_more, drop_all, take_more, map-append, append-nil, length-map, length-take}
 use Rattle.kz_model.specs.declared.bundle.TraceStep.{TraceStep}
 use Rattle.kz_model.specs.declared.grammar.Refusal.{Refusal}
-use Rattle.kz_model.specs.Form.{Section}
-use Rattle.kz_model.specs.Stages.{Row, names_from, name_fault, with_row, of_cpu, lines_from, rows_of, else_fault, CpuLine}
-use Rattle.kz_model.specs.Traces.{no_step}
-use Rattle.kz_bundle.specs.declared.parts.Part.{Part}
+use Rattle.kz_model.specs.Grammar.Form.{Section}
+use Rattle.kz_model.specs.Grammar.Stages.{Row, names_from, name_fault, with_row, of_cpu, lines_from, rows_of, else_fault, CpuLine}
+use Rattle.kz_model.specs.Run.Journal.{no_step}
+use Rattle.kz_bundle.specs.declared.form.parts.Part.{Part}
 use Rattle.kz_bundle.specs.Parts.{line_meant, section_meant}
 use Rattle.kz_bundle.specs.Rows.{Rows}
 use Rattle.kz_bundle.specs.Naming.{AreDeclared}

@@ -15,21 +15,21 @@ use Rattle.kz_model.specs.declared.grammar.Place.{Place}
 use Rattle.kz_model.specs.declared.grammar.Place.TheVariants.{Steps}
 use Rattle.kz_model.specs.declared.grammar.Cause.TheVariants as cause
 use Rattle.kz_model.specs.declared.grammar.Counted.TheVariants as counted
-use Rattle.kz_model.specs.Tokens.{is_name}
-use Rattle.kz_model.specs.Steps as step
-use Rattle.kz_model.specs.Form.{SaidLine, Section, Draft, with_step}
-use Rattle.kz_model.specs.Spelling.{said_of, text_at}
-use Rattle.kz_model.specs.Stages.{has, name_in, type_in}
-use Rattle.kz_bundle.specs.declared.parts.Part.{Part}
-use Rattle.kz_bundle.specs.declared.steps.Said.{Said}
-use Rattle.kz_bundle.specs.declared.steps.Said.TheVariants.{Alloc, AllocZero, Free, FreeAs, Give, Take, Read, Write, Flush, Trim}
-use Rattle.kz_bundle.specs.Saids.{said_as, IsNamed}
-use Rattle.kz_bundle.specs.declared.reader.Reader.{Reader}
-use Rattle.kz_bundle.specs.declared.tables.Tables.{Tables}
-use Rattle.kz_model.specs.Traces.{AreNumbered}
+use Rattle.kz_model.specs.Grammar.Tokens.{is_name}
+use Rattle.kz_model.specs.Grammar.Steps as step
+use Rattle.kz_model.specs.Grammar.Form.{StepLine, Section, Draft, with_step}
+use Rattle.kz_model.specs.Grammar.Spelling.{named_step_of, text_at}
+use Rattle.kz_model.specs.Grammar.Stages.{has, name_in, type_in}
+use Rattle.kz_bundle.specs.declared.form.parts.Part.{Part}
+use Rattle.kz_bundle.specs.declared.form.steps.NamedStep.{NamedStep}
+use Rattle.kz_bundle.specs.declared.form.steps.NamedStep.TheVariants.{Alloc, AllocZero, Free, FreeAs, Give, Take, Read, Write, Flush, Trim}
+use Rattle.kz_bundle.specs.NamedSteps.{named_step_as, IsNamed}
+use Rattle.kz_bundle.specs.declared.form.reader.Reader.{Reader}
+use Rattle.kz_bundle.specs.declared.form.tables.Tables.{Tables}
+use Rattle.kz_model.specs.Store.Traces.{AreNumbered}
 use Rattle.kz_bundle.specs.Parts.{line_meant, section_meant, IsPart}
 use Rattle.kz_bundle.specs.Table.{with_text, names_after, words_after}
-use Rattle.kz_bundle.specs.Reading.{so_far, IsAt, IsReading}
+use Rattle.kz_bundle.specs.Reading.{so_far, HoldsAtPlace, IsReading}
 
 -- ---- tables that grow
 
@@ -49,23 +49,23 @@ by_option : (o : Option (List ℕ)) (table : List (List ℕ)) → Grows table (o
 by_option None table = stays table
 by_option (Some text) table = with_one text table
 
-pub names_grow : (said : step.Said) (names : List (List ℕ)) → Grows names (names_after said names)
+pub names_grow : (said : step.NamedStep) (names : List (List ℕ)) → Grows names (names_after said names)
 names_grow said names = by_option (name_in said) names
 
-pub words_grow : (said : step.Said) (words : List (List ℕ)) → Grows words (words_after said words)
+pub words_grow : (said : step.NamedStep) (words : List (List ℕ)) → Grows words (words_after said words)
 words_grow said words = by_option (type_in said) words
 
 pub grown : {old new : List (List ℕ)} → Grows old new → (length old ≤ length new) × (length new ≤ length old + 1)
 grown {old} {new} g = let e : length new ≡ length old + length g.more = ap length g.all ∙ length-append old g.more in (omega (arith, e), omega (arith, e, g.one))
 
 -- names stay names
-pub named_after : (said : Said) (names : List (List ℕ)) → IsNamed said → All (λ name. IsTrue (is_name name)) names → All (λ name. IsTrue (is_name name)) (names_after (said_as said) names)
+pub named_after : (said : NamedStep) (names : List (List ℕ)) → IsNamed said → All (λ name. IsTrue (is_name name)) names → All (λ name. IsTrue (is_name name)) (names_after (named_step_as said) names)
 named_after said names named all = by said named
   where
     more : (name : List ℕ) → IsTrue (is_name name) → All (λ name. IsTrue (is_name name)) (with_text name names)
     more name is = cond_both (has name names) names (names ++ name ∷ []) (λ new. All (λ name. IsTrue (is_name name)) new) (λ e. all) (λ e. All-push (λ name. IsTrue (is_name name)) names name all is)
 
-    by : (said : Said) → IsNamed said → All (λ name. IsTrue (is_name name)) (names_after (said_as said) names)
+    by : (said : NamedStep) → IsNamed said → All (λ name. IsTrue (is_name name)) (names_after (named_step_as said) names)
     by (Alloc name of) is = more name.now is
     by (AllocZero name of) is = more name.now is
     by (Free name) is = more name.now is
@@ -86,11 +86,11 @@ module _ (names more words others : List (List ℕ)) where
   word_stays : (at : ℕ) → at < length words → text_at (words ++ others) at ≡ text_at words at
   word_stays at lt = get_or_append_left words others [] at lt
 
-  two_stay : (f : List ℕ → List ℕ → step.Said) (name of : ℕ) → name < length names → of < length words →
+  two_stay : (f : List ℕ → List ℕ → step.NamedStep) (name of : ℕ) → name < length names → of < length words →
       f (text_at (names ++ more) name) (text_at (words ++ others) of) ≡ f (text_at names name) (text_at words of)
   two_stay f name of a b = ap (λ n. f n (text_at (words ++ others) of)) (name_stays name a) ∙ ap (λ t. f (text_at names name) t) (word_stays of b)
 
-  said_stays : (a : Act) → AreNumbered (length names) (length words) a → said_of (names ++ more) (words ++ others) a ≡ said_of names words a
+  said_stays : (a : Act) → AreNumbered (length names) (length words) a → named_step_of (names ++ more) (words ++ others) a ≡ named_step_of names words a
   said_stays (act.Alloc name of) h = two_stay (λ n t. step.Alloc n t) name of h.0 h.1
   said_stays (act.AllocZero name of) h = two_stay (λ n t. step.AllocZero n t) name of h.0 h.1
   said_stays (act.Free name None) h = ap (λ n. step.Free n) (name_stays name h)
@@ -156,7 +156,7 @@ part_more few many low high f l part h = record {
 abbrev pub after_step : Reader → Tables → List TraceStep → Reader
 after_step r tables steps = record r { tables = tables; section = record r.section { steps = steps }; steps = r.steps + 1 }
 
-module _ (r : Reader) (tables : Tables) (steps : List TraceStep) (line : ℕ) (said : step.Said) (a : Act) (sound : IsReading r) (few : r.steps ≢ 1000000)
+module _ (r : Reader) (tables : Tables) (steps : List TraceStep) (line : ℕ) (said : step.NamedStep) (a : Act) (sound : IsReading r) (few : r.steps ≢ 1000000)
     (names : tables.names ≡ names_after said r.tables.names) (words : tables.words ≡ words_after said r.tables.words)
     (pushed : steps ≡ r.section.steps ++ record { line = line; round = r.section.breaks; act = a } ∷ []) where
   names_grew : Grows r.tables.names tables.names
@@ -177,24 +177,24 @@ module _ (r : Reader) (tables : Tables) (steps : List TraceStep) (line : ℕ) (s
     order_at = r.order_at;
   }
 
-  pub step_taken : said_of tables.names tables.words a ≡ said → with_step (so_far r) line said ≡ Ok (so_far (after_step r tables steps))
+  pub step_taken : named_step_of tables.names tables.words a ≡ said → with_step (so_far r) line said ≡ Ok (so_far (after_step r tables steps))
   unfolding draft_with
   step_taken meant =
       let old = r.tables in
-      let entry : SaidLine = record { line = line; round = r.section.breaks; said = said } in
+      let entry : StepLine = record { line = line; round = r.section.breaks; said = said } in
       let new : TraceStep = record { line = line; round = r.section.breaks; act = a } in
-      let section : List SaidLine → Section = λ steps. record { line = r.section.line; breaks = r.section.breaks; steps = steps } in
+      let section : List StepLine → Section = λ steps. record { line = r.section.line; breaks = r.section.breaks; steps = steps } in
       let before = map (section_meant old.names old.words) r.before.items in
       let before_is = parts_kept old.names tables.names old.words tables.words r.before.items names_grew words_grew sound.before in
       let steps_are : map (line_meant old.names old.words) r.section.steps ++ entry ∷ [] ≡ map (line_meant tables.names tables.words) steps =
       sym (ap (map (line_meant tables.names tables.words)) pushed ∙ map-append (line_meant tables.names tables.words) r.section.steps (new ∷ [])
       ∙ ap (λ kept. kept ++ line_meant tables.names tables.words new ∷ []) (steps_kept old.names tables.names old.words tables.words r.section.steps names_grew words_grew sound.section.within)
-      ∙ ap (λ (said : step.Said). map (line_meant old.names old.words) r.section.steps ++ record { line = line; round = r.section.breaks; said = said } ∷ []) meant) in
+      ∙ ap (λ (said : step.NamedStep). map (line_meant old.names old.words) r.section.steps ++ record { line = line; round = r.section.breaks; said = said } ∷ []) meant) in
       cond-false (r.steps == 1000000) (Err (cause.TooMany counted.Steps)) _ (ne_eqb r.steps 1000000 few)
       ∙ ap (λ b. Ok (draft_with b (section (map (line_meant old.names old.words) r.section.steps ++ entry ∷ [])))) (sym before_is)
       ∙ ap (λ s. Ok (draft_with (map (section_meant tables.names tables.words) r.before.items) (section s))) steps_are
 
-  pub step_sound : IsAt r.place r.header.cpus (length r.before.items) (r.steps + 1) r.order → AreNumbered (length tables.names) (length tables.words) a → All (λ name. IsTrue (is_name name)) tables.names →
+  pub step_sound : HoldsAtPlace r.place r.header.cpus (length r.before.items) (r.steps + 1) r.order → AreNumbered (length tables.names) (length tables.words) a → All (λ name. IsTrue (is_name name)) tables.names →
       IsReading (after_step r tables steps)
   step_sound at within named =
       let n = grown names_grew in
@@ -227,6 +227,6 @@ module _ (r : Reader) (tables : Tables) (steps : List TraceStep) (line : ℕ) (s
         order_at = sound.order_at;
       }
 
-pub at_more : (p : Place) (cpus sections steps more : ℕ) (order : Option (List OrderLine)) → p ≡ Steps → IsAt p cpus sections steps order → IsAt p cpus sections more order
+pub at_more : (p : Place) (cpus sections steps more : ℕ) (order : Option (List OrderLine)) → p ≡ Steps → HoldsAtPlace p cpus sections steps order → HoldsAtPlace p cpus sections more order
 at_more p cpus sections steps more order e =
-    let P : Place → Type 0 = λ p. IsAt p cpus sections steps order → IsAt p cpus sections more order in subst P (sym e) (λ h. h)
+    let P : Place → Type 0 = λ p. HoldsAtPlace p cpus sections steps order → HoldsAtPlace p cpus sections more order in subst P (sym e) (λ h. h)

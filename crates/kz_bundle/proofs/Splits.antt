@@ -2,8 +2,8 @@
 use Rattle.std.proofs.Common.{◌≡◌, ℕ, ◌==◌, Bool, true, false, not, nat_lt, List, [], ◌∷◌, ◌++◌, refl, ap, sym, ◌∙◌, arith, append_assoc, append-nil}
 use Rattle.std.specs.List.{list_all, slice_split, onto_first, join_with_byte}
 use Rattle.std.proofs.lemmas.List.Splits.{join_with_byte-slice_split}
-use Rattle.kz_model.specs.Tokens.{words_of, lines_of}
-use Rattle.kz_model.specs.Text.{text_of_lines}
+use Rattle.kz_model.specs.Grammar.Tokens.{tokens_of, lines_of}
+use Rattle.kz_model.specs.Text.Lines.{text_of_lines}
 use Rattle.kz_bundle.proofs.Choices.{left, right, all_weaker}
 
 -- this byte is not there
@@ -62,10 +62,10 @@ last_part c (b ∷ part) e =
 
 -- ---- words
 
-pub word_ends : (word rest : List ℕ) → dark word ≡ true → words_of (word ++ 32 ∷ rest) ≡ word ∷ words_of rest
+pub word_ends : (word rest : List ℕ) → dark word ≡ true → tokens_of (word ++ 32 ∷ rest) ≡ word ∷ tokens_of rest
 word_ends word rest e = part_ends 32 word rest refl (lacks_space word e)
 
-pub last_word : (word : List ℕ) → dark word ≡ true → words_of word ≡ word ∷ []
+pub last_word : (word : List ℕ) → dark word ≡ true → tokens_of word ≡ word ∷ []
 last_word word e = last_part 32 word (lacks_space word e)
 
 -- words, each after a space
@@ -78,7 +78,7 @@ joined_is word [] = sym (append-nil word)
 joined_is word (next ∷ words) = ap (λ (more : List ℕ). word ++ 32 ∷ more) (joined_is next words)
 
 -- a line is its words
-pub line_is : (line word : List ℕ) (words : List (List ℕ)) → words_of line ≡ word ∷ words → line ≡ word ++ after_spaces words
+pub line_is : (line word : List ℕ) (words : List (List ℕ)) → tokens_of line ≡ word ∷ words → line ≡ word ++ after_spaces words
 line_is line word words e = sym (join_with_byte-slice_split 32 line) ∙ ap (join_with_byte 32) e ∙ joined_is word words
 
 -- ---- lines

@@ -7,10 +7,10 @@ use Rattle.std.proofs.Math.Nat.{eq-or-lt_of_le}
 use Rattle.std.proofs.Math.Seq.{get_or-append_seam}
 use Rattle.std.proofs.lemmas.List.{get_or_append_left}
 use Rattle.std.proofs.lemmas.List.Folds.{list_any-append}
-use Rattle.kz_model.specs.Stages.{has, place_of}
-use Rattle.kz_model.specs.Spelling.{text_at}
+use Rattle.kz_model.specs.Grammar.Stages.{has, place_of}
+use Rattle.kz_model.specs.Grammar.Spelling.{text_at}
 use Rattle.kz_bundle.specs.Parts.{AreOnce}
-use Rattle.kz_bundle.specs.declared.index.Index.{Index}
+use Rattle.kz_bundle.specs.declared.form.index.Index.{Index}
 use Rattle.kz_bundle.specs.Table.{number_of, AreBytes, found, FindsTexts}
 
 -- ---- where a text stands

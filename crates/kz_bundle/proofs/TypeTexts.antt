@@ -6,28 +6,31 @@ use Rattle.kz_model.specs.declared.bundle.Field.{Field}
 use Rattle.kz_model.specs.declared.bundle.TypeDecl.{TypeDecl}
 use Rattle.kz_model.specs.declared.grammar.Mark.{Mark}
 use Rattle.kz_model.specs.declared.grammar.Mark.TheVariants.{Fine}
-use Rattle.kz_model.specs.Tokens.{words_of, is, is_name}
-use Rattle.kz_model.specs.Body.{Body, Next, Open, First, More, Size, Of, Label, Close, Done, whole, body_of, no_body, type_line}
-use Rattle.kz_model.specs.Form.{Declares}
-use Rattle.kz_model.specs.Spelling.{spaced, line_text, IsField, IsDeclared, body_text}
+use Rattle.kz_model.specs.Grammar.Tokens.{tokens_of, is, is_name}
+use Rattle.kz_model.specs.Grammar.TypeLine.{type_line}
+use Rattle.kz_bundle.specs.BodyStates.{Body, Next, Open, First, More, Size, Of, Label, Close, Done, whole, body_of, no_body, line_by_words}
+use Rattle.kz_model.specs.Grammar.Form.{Declares}
+use Rattle.kz_model.specs.Grammar.Spelling.{spaced, line_text, IsField, IsDeclared, body_text}
 use Rattle.kz_bundle.proofs.Choices.{all_append, left, right, found_same, none_found, only, is_same}
 use Rattle.kz_bundle.proofs.Splits.{is_inked, inked, inked_dark, after_spaces, line_is}
 use Rattle.kz_bundle.proofs.NameTexts.{name_dark}
 use Rattle.kz_bundle.proofs.StepTexts.{spaced_words, spaced_is}
 use Rattle.kz_bundle.proofs.BodyReads.{body_reads}
-use Rattle.kz_bundle.proofs.BodySays.{IsSound, IsNext, consumed, around, inside, body_says}
-use Rattle.kz_bundle.proofs.BodyInk.{body_inked}
+use Rattle.kz_bundle.proofs.BodySays.{IsSound, FitsNext, consumed, around, inside, body_says}
+use Rattle.kz_bundle.proofs.BodyBytes.{body_inked}
+use Rattle.kz_bundle.proofs.Grammar.{type_line-by_words}
 
 -- ---- how a type line is read
 
-pub type_words : (decl : TypeDecl) → IsDeclared decl → words_of (line_text (Declares decl)) ≡ codes "type" ∷ decl.name ∷ words_of (body_text decl.fields)
+pub type_words : (decl : TypeDecl) → IsDeclared decl → tokens_of (line_text (Declares decl)) ≡ codes "type" ∷ decl.name ∷ tokens_of (body_text decl.fields)
 type_words decl is =
-    spaced_words (codes "type") (spaced decl.name (body_text decl.fields)) (decl.name ∷ words_of (body_text decl.fields)) refl
-    (spaced_words decl.name (body_text decl.fields) (words_of (body_text decl.fields)) (name_dark decl.name is.0) refl)
+    spaced_words (codes "type") (spaced decl.name (body_text decl.fields)) (decl.name ∷ tokens_of (body_text decl.fields)) refl
+    (spaced_words decl.name (body_text decl.fields) (tokens_of (body_text decl.fields)) (name_dark decl.name is.0) refl)
 
-pub type_reads : (decl : TypeDecl) → IsDeclared decl → type_line (codes "type" ∷ decl.name ∷ words_of (body_text decl.fields)) ≡ Some (decl, Fine)
+pub type_reads : (decl : TypeDecl) → IsDeclared decl → type_line (codes "type" ∷ decl.name ∷ tokens_of (body_text decl.fields)) ≡ Some (decl, Fine)
 type_reads decl is =
-    ap (λ b. if b then option_map_or {U = Option (TypeDecl × Mark)} (λ b. whole decl.name b.next b) (body_of no_body (words_of (body_text decl.fields))) None else None) is.0
+    type_line-by_words (codes "type" ∷ decl.name ∷ tokens_of (body_text decl.fields))
+    ∙ ap (λ b. if b then option_map_or {U = Option (TypeDecl × Mark)} (λ b. whole decl.name b.next b) (body_of no_body (tokens_of (body_text decl.fields))) None else None) is.0
     ∙ ap (λ o. option_map_or {U = Option (TypeDecl × Mark)} (λ b. whole decl.name b.next b) o None) (body_reads decl.fields is.1)
 
 pub type_inked : (decl : TypeDecl) → IsDeclared decl → inked (line_text (Declares decl)) ≡ true
@@ -43,7 +46,7 @@ sound_first = record { few = omega arith; outer = tt; fields = All-nil (IsField 
 -- the words of a whole body
 done_says : (b : Body) (words : List (List ℕ)) → b.next ≡ Done → IsSound b → consumed b ≡ after_spaces words → ((32 ∷ body_text b.fields) ≡ after_spaces words) × All (IsField 8) b.fields
 done_says b words done sound text =
-    by_outer b.outer (subst (IsNext (8 - length b.outer) b.outer b.fields) done sound.next) (ap (λ next. around b.outer ++ inside b.fields next) (sym done) ∙ text) sound.fields
+    by_outer b.outer (subst (FitsNext (8 - length b.outer) b.outer b.fields) done sound.next) (ap (λ next. around b.outer ++ inside b.fields next) (sym done) ∙ text) sound.fields
   where
     by_outer : (outer : List (List Field)) → outer ≡ [] → around outer ++ inside b.fields Done ≡ after_spaces words → All (IsField (8 - length outer)) b.fields →
         ((32 ∷ body_text b.fields) ≡ after_spaces words) × All (IsField 8) b.fields
@@ -59,10 +62,10 @@ SaysType text decl = (text ≡ line_text (Declares decl)) × IsDeclared decl
 abbrev type_of : List ℕ → List Field → TypeDecl
 type_of name fields = record { name = name; fields = fields }
 
-pub type_says : (text : List ℕ) (decl : TypeDecl) → type_line (words_of text) ≡ Some (decl, Fine) → (text ≡ line_text (Declares decl)) × IsDeclared decl
-type_says text decl e = by_words (words_of text) refl e
+pub type_says : (text : List ℕ) (decl : TypeDecl) → type_line (tokens_of text) ≡ Some (decl, Fine) → (text ≡ line_text (Declares decl)) × IsDeclared decl
+type_says text decl e = by_words (tokens_of text) refl (sym (type_line-by_words (tokens_of text)) ∙ e)
   where
-    by_words : (words : List (List ℕ)) → words_of text ≡ words → type_line words ≡ Some (decl, Fine) → SaysType text decl
+    by_words : (words : List (List ℕ)) → tokens_of text ≡ words → line_by_words words ≡ Some (decl, Fine) → SaysType text decl
     by_words [] cut e = none_found (decl, Fine) e
     by_words (w ∷ []) cut e = none_found (decl, Fine) e
     by_words (w ∷ name ∷ words) cut e =

@@ -6,7 +6,7 @@ use Rattle.kz_model.specs.declared.bundle.Kind.TheVariants.{Union}
 use Rattle.kz_model.specs.declared.bundle.Kind.TheViews.{outs-Union', outs-Union, roll-out-Kind}
 use Rattle.kz_model.specs.declared.bundle.Kind.TheBlock.{hidden-the_row-Field-0, items_hidden-the_row-Field-0, items_shown-the_row-Field-0}
 use Rattle.kz_model.specs.declared.bundle.Field.{Field}
-use Rattle.kz_model.specs.Spelling.{kind_text, row_text, more_text, label_text, more_fields_text, fields_text, body_text, IsKind, AreFields, IsField}
+use Rattle.kz_model.specs.Grammar.Spelling.{kind_text, row_text, more_text, label_text, more_fields_text, fields_text, body_text, IsKind, AreFields, IsField}
 
 -- a union by its row is the union of the row's fields
 pub union_is : (shape : _) (row : _) → Union (items-the_row-Field _ row) ≡ Union' shape row

@@ -11,16 +11,16 @@ use Rattle.kz_model.specs.declared.grammar.Place.TheVariants as place
 use Rattle.kz_model.specs.declared.grammar.Cause.TheVariants as cause
 use Rattle.kz_model.specs.declared.grammar.Counted.TheVariants as counted
 use Rattle.kz_model.specs.declared.grammar.Header.{Header}
-use Rattle.kz_model.specs.Steps.{Said, Alloc, AllocZero, Free, FreeAs, Give, Take, Read, Write, Flush, Trim}
-use Rattle.kz_model.specs.Form.{Line, Machine, SeedOf, Cpus, Frames, Pages, Budget, Magazine, Depot, Declares, Opens, Does, Break, Orders, Turns, Ends, SaidLine, Section, Draft, nothing_said, new_section, with_header, turns_of, with_line}
-use Rattle.kz_model.specs.Spelling.{IsName, IsSaid, IsDeclared, IsAllowed, Leads}
+use Rattle.kz_model.specs.Grammar.Steps.{NamedStep, Alloc, AllocZero, Free, FreeAs, Give, Take, Read, Write, Flush, Trim}
+use Rattle.kz_model.specs.Grammar.Form.{Line, Machine, SeedOf, Cpus, Frames, Pages, Budget, Magazine, Depot, Declares, Opens, Does, Break, Orders, Turns, Ends, StepLine, Section, Draft, empty_draft, new_section, with_header, turns_of, with_line}
+use Rattle.kz_model.specs.Grammar.Spelling.{IsName, IsNamedStep, IsDeclared, IsAllowed, Leads}
 use Rattle.kz_bundle.proofs.Choices.{equal}
 use Rattle.kz_bundle.proofs.Walking.{leads_to, led_same, failed, IsReached, reached_more}
 
 -- ---- what is kept
 
 -- what is bound is a name, and a piece that is read is short
-abbrev pub KeepsTo : Said → Type 0
+abbrev pub KeepsTo : NamedStep → Type 0
 KeepsTo (Alloc name of) = IsName name
 KeepsTo (AllocZero name of) = IsName name
 KeepsTo (Read name off len) = len ≤ 32
@@ -31,7 +31,7 @@ abbrev pub IsHeader : Header → Type 0
 IsHeader h = (h.frames ≤ 8192) × (h.pages ≤ 4096) × (h.budget ≤ 128) × (h.magazine ≤ 32) × (h.depot ≤ 16)
 
 -- a step of a section with so many breaks
-abbrev pub IsStep : ℕ → SaidLine → Type 0
+abbrev pub IsStep : ℕ → StepLine → Type 0
 IsStep breaks line = KeepsTo line.said × (line.round ≤ breaks)
 
 pub record IsSection (section : Section) : Type 0 where
@@ -61,7 +61,7 @@ pub record IsDraft (d : Draft) : Type 0 where
 
 -- ---- one line
 
-keeps_to : (cpus : ℕ) (said : Said) → IsSaid cpus said → KeepsTo said
+keeps_to : (cpus : ℕ) (said : NamedStep) → IsNamedStep cpus said → KeepsTo said
 keeps_to cpus (Alloc name of) is = is.0
 keeps_to cpus (AllocZero name of) is = is.0
 keeps_to cpus (Free name) is = tt
@@ -173,14 +173,14 @@ draft_next place.Steps d number (Does said) more ok is e =
           stepped place.Steps d d.before longer (d.steps + 1) more ok ok.told ok.before
           (record {
             steps = All-push (IsStep d.section.breaks) d.section.steps line ok.section.steps (keeps_to d.header.cpus said is, omega arith);
-            in_rounds = IsNonDecreasingBy-push (λ (line : SaidLine). line.round) d.section.steps line ok.section.in_rounds (λ e some. (ok.section.steps (length d.section.steps - 1) e (omega arith)).1);
+            in_rounds = IsNonDecreasingBy-push (λ (line : StepLine). line.round) d.section.steps line ok.section.in_rounds (λ e some. (ok.section.steps (length d.section.steps - 1) e (omega arith)).1);
             breaks = ok.section.breaks;
           })
           (one_longer (sum_by count_of d.before) (length d.section.steps) (length (d.section.steps ++ line ∷ [])) d.steps (length-append d.section.steps (line ∷ [])) ok.counted)
           (room d.steps 1000000 full ok.few_steps) e
     ] refl e
   where
-    line : SaidLine
+    line : StepLine
     line = record { line = number; round = d.section.breaks; said = said }
 
     longer : Section
@@ -212,7 +212,7 @@ draft_next p d number line more ok is e = absurd is
 
 -- ---- all lines
 
-pub draft_first : IsDraft nothing_said
+pub draft_first : IsDraft empty_draft
 draft_first = record {
   header = (omega arith, omega arith, omega arith, omega arith, omega arith);
   types = All-nil IsDeclared;

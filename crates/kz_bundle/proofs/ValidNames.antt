@@ -5,11 +5,11 @@ use Rattle.std.proofs.lemmas.List.Elements.{All-nil, All-cons, All-head, All-tai
 use Rattle.kz_model.specs.declared.grammar.Cause.TheVariants as cause
 use Rattle.kz_model.specs.declared.grammar.Counted.TheVariants as counted
 use Rattle.kz_model.specs.declared.grammar.Refusal.{Refusal}
-use Rattle.kz_model.specs.Tokens.{is as is_text}
-use Rattle.kz_model.specs.Steps.{Said, Alloc, AllocZero}
-use Rattle.kz_model.specs.Form.{Section}
-use Rattle.kz_model.specs.Stages.{else_fault, fault_if, Row, has, row_of, is_there, binds, type_in, name_in, gives_to, with_bound, with_row, CpuLine, of_cpu, lines_from, bound_fault, name_fault, names_from, row_names}
-use Rattle.kz_model.specs.Spelling.{IsName}
+use Rattle.kz_model.specs.Grammar.Tokens.{is as is_text}
+use Rattle.kz_model.specs.Grammar.Steps.{NamedStep, Alloc, AllocZero}
+use Rattle.kz_model.specs.Grammar.Form.{Section}
+use Rattle.kz_model.specs.Grammar.Stages.{else_fault, fault_if, Row, has, row_of, is_there, binds, type_in, name_in, gives_to, with_bound, with_row, CpuLine, of_cpu, lines_from, bound_fault, name_fault, names_from, row_names}
+use Rattle.kz_model.specs.Grammar.Spelling.{IsName}
 use Rattle.kz_bundle.proofs.OneText.{some_fault, first_none, then_none, right_one, named}
 use Rattle.kz_bundle.proofs.ValidLines.{KeepsTo, IsSection}
 
@@ -26,7 +26,7 @@ all_mapped P f (x ∷ xs) all = All-cons (λ x. P (f x)) x xs (All-head P (f x) 
 -- ---- one line
 
 -- its type is among the types, and its name among the names
-abbrev pub IsKnown : List (List ℕ) → List (List ℕ) → Said → Type 0
+abbrev pub IsKnown : List (List ℕ) → List (List ℕ) → NamedStep → Type 0
 IsKnown types names said = IfSome (type_in said) (λ of. has of types ≡ true) × IfSome (name_in said) (λ name. has name names ≡ true)
 
 known_type : (types : List (List ℕ)) (line : ℕ) (o : Option (List ℕ)) → option_map_or {U = Option Refusal} (λ of. fault_if (not (has of types)) line cause.UnknownType) o None ≡ None → IfSome o (λ of. has of types ≡ true)
@@ -70,7 +70,7 @@ pub record AreRows (types : List (List ℕ)) (rows : List Row) : Type 0 where
 abbrev IsBound : List (List ℕ) → Option (List ℕ × List ℕ) → Type 0
 IsBound types o = IfSome o (λ bound. IsName bound.0 × (has bound.1 types ≡ true))
 
-is_bound : (types names : List (List ℕ)) (said : Said) → KeepsTo said → IsKnown types names said → IsBound types (binds said)
+is_bound : (types names : List (List ℕ)) (said : NamedStep) → KeepsTo said → IsKnown types names said → IsBound types (binds said)
 is_bound types names (Alloc name of) keeps known = (keeps, known.0)
 is_bound types names (AllocZero name of) keeps known = (keeps, known.0)
 is_bound types names said keeps known = tt

@@ -12,20 +12,20 @@ use Rattle.kz_model.specs.declared.bundle.OrderLine.{OrderLine}
 use Rattle.kz_model.specs.declared.bundle.OrderLine.TheVariants as turn
 use Rattle.kz_model.specs.declared.grammar.Cause.{Cause}
 use Rattle.kz_model.specs.declared.grammar.Cause.TheVariants as cause
-use Rattle.kz_model.specs.Steps.{Flush}
-use Rattle.kz_model.specs.Form.{SaidLine, Section, Draft}
-use Rattle.kz_model.specs.Stages.{fault_if, steps_in, left_in, none_left, order_from, order_fault, sections_of, step_of}
-use Rattle.kz_model.specs.Turns.{is_of_round, counts_in, AreDone, AreInTurn}
+use Rattle.kz_model.specs.Grammar.Steps.{Flush}
+use Rattle.kz_model.specs.Grammar.Form.{StepLine, Section, Draft}
+use Rattle.kz_model.specs.Grammar.Stages.{fault_if, steps_in, left_in, none_left, order_from, order_fault, sections_of, step_of}
+use Rattle.kz_model.specs.Grammar.Turns.{is_of_round, counts_in, AreDone, AreInTurn}
 use Rattle.kz_bundle.proofs.Choices.{equal, or_left, or_right}
 use Rattle.kz_bundle.proofs.OneText.{some_fault, first_none, then_none}
 use Rattle.kz_bundle.proofs.ValidLines.{IsSection}
 
 -- ---- the rounds of a trace
 
-no_line : SaidLine
+no_line : StepLine
 no_line = record { line = 0; round = 0; said = Flush [] }
 
-rounds_kept : (types names : List (List ℕ)) (steps : List SaidLine) → IsNonDecreasingBy (λ (line : SaidLine). line.round) steps → IsNonDecreasingBy (λ (line : TraceStep). line.round) (map (step_of types names) steps)
+rounds_kept : (types names : List (List ℕ)) (steps : List StepLine) → IsNonDecreasingBy (λ (line : StepLine). line.round) steps → IsNonDecreasingBy (λ (line : TraceStep). line.round) (map (step_of types names) steps)
 rounds_kept types names steps rising i j d le lt =
     let within : j < length steps = subst (λ n. j < n) (length-map steps (step_of types names)) lt in
     let at : (k : ℕ) → k < length steps → (slice_index_or (map (step_of types names) steps) k d).round ≡ (slice_index_or steps k no_line).round =
@@ -39,7 +39,7 @@ traces_in_rounds types names sections are =
 
 -- ---- the steps that are left
 
-counts : (types names : List (List ℕ)) (round : ℕ) (steps : List SaidLine) → steps_in round steps ≡ length (filter (is_of_round round) (map (step_of types names) steps))
+counts : (types names : List (List ℕ)) (round : ℕ) (steps : List StepLine) → steps_in round steps ≡ length (filter (is_of_round round) (map (step_of types names) steps))
 counts types names round [] = refl
 counts types names round (step ∷ steps) =
     let again = counts types names round steps in

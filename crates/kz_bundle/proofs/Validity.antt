@@ -10,14 +10,15 @@ use Rattle.kz_model.specs.declared.record.Layout.{Layout}
 use Rattle.kz_model.specs.declared.layout.LayoutFault.{LayoutFault}
 use Rattle.kz_model.specs.declared.grammar.Cause.TheVariants as cause
 use Rattle.kz_model.specs.declared.grammar.Place.TheVariants as place
-use Rattle.kz_model.specs.Tokens.{is_name}
-use Rattle.kz_model.specs.Steps.{Said, Alloc, AllocZero, Free, FreeAs, Give, Take, Read, Write, Flush, Trim}
-use Rattle.kz_model.specs.Form.{SaidLine, Section, Draft, nothing_said}
-use Rattle.kz_model.specs.Layouts.{layouts_of}
-use Rattle.kz_model.specs.Plan.{classes_in_use}
-use Rattle.kz_model.specs.Stages.{else_fault, fault_if, Row, sections_of, step_lines, rows_of, type_names, cause_of, budget_fault, fault_of_layouts, types_fault, names_fault, rounds_of, order_fault, rounds_fault, later_fault, place_of, act_of, step_of, row_names, bundle_of}
-use Rattle.kz_model.specs.Spelling.{IsDeclared}
-use Rattle.kz_model.specs.Valid.{IsActWithin, IsStepWithin, ok_or_none, IsValid, ReadingIsValid}
+use Rattle.kz_model.specs.Grammar.Tokens.{is_name}
+use Rattle.kz_model.specs.Grammar.Steps.{NamedStep, Alloc, AllocZero, Free, FreeAs, Give, Take, Read, Write, Flush, Trim}
+use Rattle.kz_model.specs.Grammar.Form.{StepLine, Section, Draft, empty_draft}
+use Rattle.kz_model.specs.Types.Layouts.{layouts_of}
+use Rattle.kz_model.specs.Types.Plan.{classes_in_use}
+use Rattle.kz_model.specs.Grammar.Stages.{else_fault, fault_if, Row, sections_of, step_lines, rows_of, type_names, cause_of, budget_fault, fault_of_layouts, types_fault, names_fault, rounds_of, order_fault, rounds_fault, later_fault, place_of, act_of, step_of, row_names, bundle_of}
+use Rattle.kz_model.specs.Grammar.Spelling.{IsDeclared}
+use Rattle.kz_model.specs.Store.Traces.{AreNumbered}
+use Rattle.kz_model.specs.Grammar.Valid.{HasShortRead, IsStepWithin, ok_or_none, IsValid, ReadingIsValid}
 use Rattle.kz_bundle.proofs.Declared.{declared-AreInRange}
 use Rattle.kz_bundle.proofs.OneText.{some_fault, first_none, then_none, AllRounds, same_rounds}
 use Rattle.kz_bundle.proofs.Table.{place_within}
@@ -48,20 +49,32 @@ laid_out types budget e = let given = by_layouts (layouts_of types) e in record 
 
 -- ---- the steps
 
-act_within : (types names : List (List ℕ)) (said : Said) → KeepsTo said → IsKnown types names said → IsActWithin (length names) (length types) (act_of types names said)
-act_within types names (Alloc name of) keeps known = (place_within name names known.1, place_within of types known.0)
-act_within types names (AllocZero name of) keeps known = (place_within name names known.1, place_within of types known.0)
-act_within types names (Free name) keeps known = place_within name names known.1
-act_within types names (FreeAs name of) keeps known = (place_within name names known.1, place_within of types known.0)
-act_within types names (Give name to) keeps known = place_within name names known.1
-act_within types names (Take name) keeps known = place_within name names known.1
-act_within types names (Read name off len) keeps known = (place_within name names known.1, keeps)
-act_within types names (Write name off bytes) keeps known = place_within name names known.1
-act_within types names (Flush of) keeps known = place_within of types known.0
-act_within types names (Trim of) keeps known = place_within of types known.0
+act_within : (types names : List (List ℕ)) (said : NamedStep) → IsKnown types names said → AreNumbered (length names) (length types) (act_of types names said)
+act_within types names (Alloc name of) known = (place_within name names known.1, place_within of types known.0)
+act_within types names (AllocZero name of) known = (place_within name names known.1, place_within of types known.0)
+act_within types names (Free name) known = place_within name names known.1
+act_within types names (FreeAs name of) known = (place_within name names known.1, place_within of types known.0)
+act_within types names (Give name to) known = place_within name names known.1
+act_within types names (Take name) known = place_within name names known.1
+act_within types names (Read name off len) known = place_within name names known.1
+act_within types names (Write name off bytes) known = place_within name names known.1
+act_within types names (Flush of) known = place_within of types known.0
+act_within types names (Trim of) known = place_within of types known.0
 
-step_within : (types names : List (List ℕ)) (breaks last : ℕ) (line : SaidLine) → breaks ≡ last → IsStep breaks line → IsKnown types names line.said → IsStepWithin (length names) (length types) (last + 1) (step_of types names line)
-step_within types names breaks last line same is known = record { act = act_within types names line.said is.0 known; round = omega (arith, is.1, same) }
+read_short : (types names : List (List ℕ)) (said : NamedStep) → KeepsTo said → HasShortRead (act_of types names said)
+read_short types names (Read name off len) keeps = keeps
+read_short types names (Alloc name of) keeps = tt
+read_short types names (AllocZero name of) keeps = tt
+read_short types names (Free name) keeps = tt
+read_short types names (FreeAs name of) keeps = tt
+read_short types names (Give name to) keeps = tt
+read_short types names (Take name) keeps = tt
+read_short types names (Write name off bytes) keeps = tt
+read_short types names (Flush of) keeps = tt
+read_short types names (Trim of) keeps = tt
+
+step_within : (types names : List (List ℕ)) (breaks last : ℕ) (line : StepLine) → breaks ≡ last → IsStep breaks line → IsKnown types names line.said → IsStepWithin (length names) (length types) (last + 1) (step_of types names line)
+step_within types names breaks last line same is known = record { act = act_within types names line.said known; read = read_short types names line.said is.0; round = omega (arith, is.1, same) }
 
 all_rounds : (breaks : ℕ) (sections : List Section) → AllRounds breaks sections → All (λ section. section.breaks ≡ breaks) sections
 all_rounds breaks [] all = All-nil (λ (section : Section). section.breaks ≡ breaks)
@@ -163,4 +176,4 @@ reading_is_valid bytes b e =
     let spells = (spelling_is_reading bytes b).0 e in
     let d = spells.said in
     subst IsValid (sym spells.bundle)
-    (draft_valid d (draft_last nothing_said 1 spells.lines d draft_first spells.leads) (reached_last nothing_said 1 spells.lines d reached_first spells.leads) spells.ended spells.faultless)
+    (draft_valid d (draft_last empty_draft 1 spells.lines d draft_first spells.leads) (reached_last empty_draft 1 spells.lines d reached_first spells.leads) spells.ended spells.faultless)

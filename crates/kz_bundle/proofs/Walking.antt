@@ -12,10 +12,10 @@ use Rattle.kz_model.specs.declared.grammar.Counted.TheVariants as counted
 use Rattle.kz_model.specs.declared.grammar.Header.{Header}
 use Rattle.kz_model.specs.declared.grammar.Refusal.{Refusal}
 use Rattle.kz_model.specs.declared.bundle.Bundle.{Bundle}
-use Rattle.kz_model.specs.Tokens.{words_of, lines_of}
-use Rattle.kz_model.specs.Form.{Line, Machine, SeedOf, Cpus, Frames, Pages, Budget, Magazine, Depot, Declares, Opens, Does, Break, Orders, Turns, Ends, Draft, nothing_said, line_at, with_header, with_line, judged, after_line, rest_at, go_on, form_from, form_of, refused}
-use Rattle.kz_model.specs.Stages.{later_fault, bundle_of, unless, after_form, read}
-use Rattle.kz_model.specs.Spelling.{line_text, IsAllowed, Leads, Spells, SpellingIsReading}
+use Rattle.kz_model.specs.Grammar.Tokens.{tokens_of, lines_of}
+use Rattle.kz_model.specs.Grammar.Form.{Line, Machine, SeedOf, Cpus, Frames, Pages, Budget, Magazine, Depot, Declares, Opens, Does, Break, Orders, Turns, Ends, Draft, empty_draft, line_at, with_header, with_line, judged, after_line, rest_at, go_on, form_from, form_of, refused}
+use Rattle.kz_model.specs.Grammar.Stages.{later_fault, bundle_of, unless, after_form, read}
+use Rattle.kz_model.specs.Grammar.Spelling.{line_text, IsAllowed, Leads, Spells, SpellingIsReading}
 use Rattle.kz_bundle.proofs.Choices.{and_true, not_so, ok_same, err_not}
 use Rattle.kz_bundle.proofs.Splits.{inked, lines_of-lines, text_is}
 use Rattle.kz_bundle.proofs.LineTexts.{InHeader, Fits, line_says, line_reads, line_inked}
@@ -121,7 +121,7 @@ few_before place.Ended cpus before few here = omega (arith, here)
 fits_reached : (d : Draft) → IsReached d → Fits d
 fits_reached d reached = record { cpus = reached.few; before = few_before d.place d.header.cpus (length d.before) reached.few reached.here }
 
-pub reached_first : IsReached nothing_said
+pub reached_first : IsReached empty_draft
 reached_first = record { few = omega arith; here = (omega arith, refl, λ more. absurd (omega (arith, more))) }
 
 -- ---- one line
@@ -133,10 +133,10 @@ pub record Stepped (p : Place) (d : Draft) (number : ℕ) (text : List ℕ) (mor
   pub allowed : IsAllowed p d line
   pub led : with_line d number line ≡ leads_to more
 
-judged_is : (p : Place) (d : Draft) (number : ℕ) (text : List ℕ) (more : Draft) → InHeader p → judged d number (line_at p d (words_of text)) ≡ leads_to more → Stepped p d number text more
-judged_is p d number text more within e = by_found (line_at p d (words_of text)) refl e
+judged_is : (p : Place) (d : Draft) (number : ℕ) (text : List ℕ) (more : Draft) → InHeader p → judged d number (line_at p d (tokens_of text)) ≡ leads_to more → Stepped p d number text more
+judged_is p d number text more within e = by_found (line_at p d (tokens_of text)) refl e
   where
-    by_found : (found : Option (Line × Mark)) → line_at p d (words_of text) ≡ found → judged d number found ≡ leads_to more → Stepped p d number text more
+    by_found : (found : Option (Line × Mark)) → line_at p d (tokens_of text) ≡ found → judged d number found ≡ leads_to more → Stepped p d number text more
     by_found None is e = failed cause.BadLine more e
     by_found (Some (line, BadNumber)) is e = failed cause.BadNumber more e
     by_found (Some (line, OutOfRange)) is e = failed cause.OutOfRange more e
@@ -144,14 +144,14 @@ judged_is p d number text more within e = by_found (line_at p d (words_of text))
         let says = line_says p d text line within is in
         record { line = line; text_is = says.0; allowed = says.1; led = e }
 
-after_line_is : (p : Place) (d : Draft) (number : ℕ) (text : List ℕ) (more : Draft) → InHeader p → after_line p d number (words_of text) ≡ leads_to more → Stepped p d number text more
+after_line_is : (p : Place) (d : Draft) (number : ℕ) (text : List ℕ) (more : Draft) → InHeader p → after_line p d number (tokens_of text) ≡ leads_to more → Stepped p d number text more
 after_line_is (place.Header at) d number text more within e = judged_is (place.Header at) d number text more within e
 after_line_is place.Types d number text more within e = judged_is place.Types d number text more within e
 after_line_is place.Steps d number text more within e = judged_is place.Steps d number text more within e
 after_line_is place.Order d number text more within e = judged_is place.Order d number text more within e
 after_line_is place.Ended d number text more within e = failed cause.Trailing more e
 
-after_line_reads : (p : Place) (d : Draft) (number : ℕ) (line : Line) → Fits d → IsAllowed p d line → after_line p d number (words_of (line_text line)) ≡ with_line d number line
+after_line_reads : (p : Place) (d : Draft) (number : ℕ) (line : Line) → Fits d → IsAllowed p d line → after_line p d number (tokens_of (line_text line)) ≡ with_line d number line
 after_line_reads (place.Header at) d number line fits is = ap (judged d number) (line_reads (place.Header at) d line fits is)
 after_line_reads place.Types d number line fits is = ap (judged d number) (line_reads place.Types d line fits is)
 after_line_reads place.Steps d number line fits is = ap (judged d number) (line_reads place.Steps d line fits is)
@@ -189,9 +189,9 @@ pub walked : (d : Draft) (number : ℕ) (text : List ℕ) (texts : List (List �
 walked d number text [] end reached e =
     let is = rest_is d.place d number text end e in
     record { lines = []; texts_are = ap (λ (rest : List ℕ). rest ∷ []) is.0; leads = is.1; ended = ap (λ (d : Draft). d.place) (sym is.1) ∙ is.2 }
-walked d number text (next ∷ texts) end reached e = by_line (after_line d.place d number (words_of text)) refl (λ more. walked more (number + 1) next texts end) e
+walked d number text (next ∷ texts) end reached e = by_line (after_line d.place d number (tokens_of text)) refl (λ more. walked more (number + 1) next texts end) e
   where
-    by_line : (o : Result Draft Cause) → after_line d.place d number (words_of text) ≡ o →
+    by_line : (o : Result Draft Cause) → after_line d.place d number (tokens_of text) ≡ o →
         ((more : Draft) → IsReached more → form_from more (number + 1) (next ∷ texts) ≡ formed end → Walked more (number + 1) (next ∷ texts) end) →
         go_on number o (λ more. form_from more (number + 1) (next ∷ texts)) ≡ formed end → Walked d number (text ∷ next ∷ texts) end
     by_line (Err c) is again e = unformed number c end e
@@ -209,7 +209,7 @@ rest_ends : (p : Place) (d : Draft) (number : ℕ) → p ≡ place.Ended → res
 rest_ends p d number e = subst (λ p. rest_at p d number [] ≡ formed d) (sym e) refl
 
 form_step : (d : Draft) (number : ℕ) (text : List ℕ) (texts : List (List ℕ)) →
-    form_from d number (text ∷ (texts ++ [] ∷ [])) ≡ go_on number (after_line d.place d number (words_of text)) (λ more. form_from more (number + 1) (texts ++ [] ∷ []))
+    form_from d number (text ∷ (texts ++ [] ∷ [])) ≡ go_on number (after_line d.place d number (tokens_of text)) (λ more. form_from more (number + 1) (texts ++ [] ∷ []))
 form_step d number text [] = refl
 form_step d number text (next ∷ texts) = refl
 
@@ -245,7 +245,7 @@ read_spells bytes b e = by_form (form_of bytes) refl e
     by_fault d None is e = (is, sym (ok_same Bundle Refusal (bundle_of d) b e))
     by_fault d (Some refusal) is e = err_not Bundle Refusal refusal b e
 
-    spells : (d : Draft) (text : List ℕ) (texts : List (List ℕ)) → lines_of bytes ≡ text ∷ texts → Walked nothing_said 1 (text ∷ texts) d → (later_fault d ≡ None) × (b ≡ bundle_of d) → Spells bytes b
+    spells : (d : Draft) (text : List ℕ) (texts : List (List ℕ)) → lines_of bytes ≡ text ∷ texts → Walked empty_draft 1 (text ∷ texts) d → (later_fault d ≡ None) × (b ≡ bundle_of d) → Spells bytes b
     spells d text texts cut walk later =
         record { lines = walk.lines; text = text_is bytes (map line_text walk.lines) (cut ∙ walk.texts_are); said = d; leads = walk.leads; ended = walk.ended; faultless = later.0; bundle = later.1 }
 
@@ -253,14 +253,14 @@ read_spells bytes b e = by_form (form_of bytes) refl e
     by_form (Err refusal) is e = err_not Bundle Refusal refusal b e
     by_form (Ok d) is e =
         let cut = some_line bytes in
-        spells d cut.0 cut.1 cut.2 (walked nothing_said 1 cut.0 cut.1 d reached_first (sym (ap (form_from nothing_said 1) cut.2) ∙ is)) (by_fault d (later_fault d) refl e)
+        spells d cut.0 cut.1 cut.2 (walked empty_draft 1 cut.0 cut.1 d reached_first (sym (ap (form_from empty_draft 1) cut.2) ∙ is)) (by_fault d (later_fault d) refl e)
 
 spelled_read : (bytes : List ℕ) (b : Bundle) → Spells bytes b → read bytes ≡ whole b
 spelled_read bytes b spells =
     let texts = map line_text spells.lines in
     ap read spells.text
-    ∙ ap (λ lines. after_form (form_from nothing_said 1 lines)) (lines_of-lines texts (lines_inked nothing_said 1 spells.lines spells.said reached_first spells.leads))
-    ∙ ap after_form (walks nothing_said 1 spells.lines spells.said reached_first spells.leads spells.ended)
+    ∙ ap (λ lines. after_form (form_from empty_draft 1 lines)) (lines_of-lines texts (lines_inked empty_draft 1 spells.lines spells.said reached_first spells.leads))
+    ∙ ap after_form (walks empty_draft 1 spells.lines spells.said reached_first spells.leads spells.ended)
     ∙ ap (unless spells.said) spells.faultless
     ∙ ap whole (sym spells.bundle)
 

@@ -7,12 +7,13 @@ use Rattle.std.proofs.lemmas.List.Elements.{All-push}
 use Rattle.std.proofs.lemmas.List.Sums.{sum_by-append}
 use Rattle.kz_model.specs.declared.grammar.Place.{Place}
 use Rattle.kz_model.specs.declared.grammar.Place.TheVariants.{Ended}
-use Rattle.kz_model.specs.Tokens.{is_name}
-use Rattle.kz_bundle.specs.declared.parts.Part.{Part}
-use Rattle.kz_bundle.specs.declared.parts.Parts.{Parts}
-use Rattle.kz_bundle.specs.declared.reader.Reader.{Reader}
-use Rattle.kz_bundle.specs.Parts.{texts, turns_of, IsPart, AreOnce, AreParts}
-use Rattle.kz_bundle.specs.Reading.{IsAt, IsReading}
+use Rattle.kz_model.specs.Grammar.Tokens.{is_name, texts}
+use Rattle.kz_bundle.specs.declared.form.parts.Part.{Part}
+use Rattle.kz_bundle.specs.declared.form.parts.Parts.{Parts}
+use Rattle.kz_bundle.specs.declared.form.reader.Reader.{Reader}
+use Rattle.kz_model.specs.Grammar.Form.{turns_of}
+use Rattle.kz_bundle.specs.Parts.{IsPart, AreOnce, AreParts}
+use Rattle.kz_bundle.specs.Reading.{HoldsAtPlace, IsReading}
 
 -- the parts of a reader at its end, with these tables and sections
 abbrev pub parts_of : Reader → Vec (Bor (List ℕ)) Global → Vec (Bor (List ℕ)) Global → Vec Part Global → Parts
@@ -29,7 +30,7 @@ parts_of r names words sections = record {
 module _ (r : Reader) (names words : Vec (Bor (List ℕ)) Global) (sections : Vec Part Global) (sound : IsReading r) (place : r.place ≡ Ended)
     (names_are : texts names.items ≡ r.tables.names) (words_are : texts words.items ≡ r.tables.words) (sections_are : sections.items ≡ r.before.items ++ r.section ∷ []) where
   all_cpus : length r.before.items + 1 ≡ r.header.cpus
-  all_cpus = let P : Place → Type 0 = λ p. IsAt p r.header.cpus (length r.before.items) r.steps r.order in subst P place sound.at
+  all_cpus = let P : Place → Type 0 = λ p. HoldsAtPlace p r.header.cpus (length r.before.items) r.steps r.order in subst P place sound.at
 
   names_long : length names.items ≡ length r.tables.names
   names_long = sym (length-map names.items (λ (t : Bor (List ℕ)). t.now)) ∙ ap length names_are

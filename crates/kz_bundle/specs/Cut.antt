@@ -1,8 +1,8 @@
 -- A line cut into its words.
 use Rattle.std.specs.Prelude.{◌≡◌, ◌≢◌, ℕ, ◌<◌, true, false, List, [], ◌∷◌, length, take, All, slice_index}
-use Rattle.kz_model.specs.Tokens.{is_name_byte, is_name}
-use Rattle.kz_bundle.specs.declared.words.LineWords.{LineWords}
-use Rattle.kz_bundle.specs.declared.words.LineWords.TheVariants.{One, Two, Three, Four, More}
+use Rattle.kz_model.specs.Grammar.Tokens.{is_name_byte, is_name}
+use Rattle.kz_bundle.specs.declared.form.tokens.LineTokens.{LineTokens}
+use Rattle.kz_bundle.specs.declared.form.tokens.LineTokens.TheVariants.{One, Two, Three, Four, More}
 
 abbrev pub HasNoSpace : List ℕ → Type 0
 HasNoSpace text = All (λ byte. byte ≢ 32) text
@@ -22,7 +22,7 @@ pub record SpaceAt (text : List ℕ) (at : ℕ) : Type 0 where
   pub none_before : HasNoSpace (take at text)
 
 -- the words that are told; more than four stand as five, of which only the first is told
-abbrev pub list_of : LineWords → List (List ℕ)
+abbrev pub list_of : LineTokens → List (List ℕ)
 list_of (One w) = w.now ∷ []
 list_of (Two w x) = w.now ∷ x.now ∷ []
 list_of (Three w x y) = w.now ∷ x.now ∷ y.now ∷ []
@@ -39,7 +39,7 @@ pub record AreMany (first : List ℕ) (words : List (List ℕ)) : Type 0 where
   pub all : words ≡ first ∷ second ∷ third ∷ fourth ∷ fifth ∷ others
 
 -- these words are told
-abbrev pub AreWords : LineWords → List (List ℕ) → Type 0
+abbrev pub AreWords : LineTokens → List (List ℕ) → Type 0
 AreWords (One w) words = words ≡ w.now ∷ []
 AreWords (Two w x) words = words ≡ w.now ∷ x.now ∷ []
 AreWords (Three w x y) words = words ≡ w.now ∷ x.now ∷ y.now ∷ []

@@ -5,10 +5,12 @@ pub mod Table
 pub mod Naming
 pub mod Numbers
 pub mod Cut
-pub mod Saids
+pub mod NamedSteps
 pub mod Lines
 pub mod Reading
 pub mod Bodies
 pub mod Printing
+pub mod BodyStates
 pub mod Outlines
+pub mod Walks
 pub mod Counted

@@ -2,10 +2,10 @@
 use Rattle.std.specs.Prelude.{◌≡◌, ◌≢◌, ℕ, ◌+◌, ◌-◌, ◌≤◌}
 use Rattle.kz_model.specs.declared.grammar.Place.{Place}
 use Rattle.kz_model.specs.declared.grammar.Place.TheVariants as place
-use Rattle.kz_model.specs.TypeLines.{decl_of, IsTypeLine}
-use Rattle.kz_model.specs.Form as form
-use Rattle.kz_bundle.specs.declared.lines.Line.{Line}
-use Rattle.kz_bundle.specs.declared.lines.Line.TheVariants.{Machine, SeedOf, Cpus, Frames, Pages, Budget, Magazine, Depot, Declares, Opens, Break, Orders, Turns, Ends}
+use Rattle.kz_model.specs.Store.TypeLines.{decl_of, IsTypeLine}
+use Rattle.kz_model.specs.Grammar.Form as form
+use Rattle.kz_bundle.specs.declared.form.lines.Line.{Line}
+use Rattle.kz_bundle.specs.declared.form.lines.Line.TheVariants.{Machine, SeedOf, Cpus, Frames, Pages, Budget, Magazine, Depot, Declares, Opens, Break, Orders, Turns, Ends}
 
 abbrev pub line_as : Line → form.Line
 line_as (Machine n) = form.Machine n

@@ -1,28 +1,24 @@
 -- What the parts of a text stand for.
 use Rattle.std.specs.Prelude.{◌≡◌, ℕ, ◌-◌, ◌<◌, ◌≤◌, List, [], length, map, take, Option, None, Some, sum_by, All, IsTrue, slice_index_or}
-use Rattle.std.specs.Borrow.{Bor}
 use Rattle.kz_model.specs.declared.bundle.OrderLine.{OrderLine}
 use Rattle.kz_model.specs.declared.bundle.OrderLine.TheVariants as turn
 use Rattle.kz_model.specs.declared.bundle.TraceStep.{TraceStep}
 use Rattle.kz_model.specs.declared.grammar.Place.TheVariants as place
-use Rattle.kz_model.specs.Form.{SaidLine, Section, Draft, new_section}
-use Rattle.kz_model.specs.Traces.{AreNumbered}
-use Rattle.kz_model.specs.Tokens.{is_name}
-use Rattle.kz_model.specs.Stages.{place_of}
-use Rattle.kz_model.specs.Spelling.{said_of, text_at}
-use Rattle.kz_bundle.specs.declared.parts.Part.{Part}
-use Rattle.kz_bundle.specs.declared.parts.Parts.{Parts}
-
--- the texts that references point to
-abbrev pub texts : List (Bor (List ℕ)) → List (List ℕ)
-texts words = map (λ word. word.now) words
+use Rattle.kz_model.specs.Grammar.Form.{StepLine, Section, Draft, new_section, turns_of}
+use Rattle.kz_model.specs.Store.Traces.{AreNumbered}
+use Rattle.kz_model.specs.Grammar.Tokens.{is_name, texts}
+use Rattle.kz_model.specs.Grammar.Stages.{place_of}
+use Rattle.kz_model.specs.Grammar.Spelling.{named_step_of, text_at}
+use Rattle.kz_bundle.specs.declared.form.parts.Part.{Part}
+use Rattle.kz_bundle.specs.declared.form.parts.Parts.{Parts}
 
 -- a step line, its names and types by number in these tables
-abbrev pub line_meant : List (List ℕ) → List (List ℕ) → TraceStep → SaidLine
-line_meant names words step = record { line = step.line; round = step.round; said = said_of names words step.act }
+abbrev pub line_meant : List (List ℕ) → List (List ℕ) → TraceStep → StepLine
+line_meant names words step = record { line = step.line; round = step.round; said = named_step_of names words step.act }
 
 abbrev pub section_meant : List (List ℕ) → List (List ℕ) → Part → Section
-section_meant names words part = record { line = part.line; breaks = part.breaks; steps = map (line_meant names words) part.steps }
+section_meant names words part =
+    record { line = part.line; breaks = part.breaks; steps = map (line_meant names words) part.steps }
 
 abbrev pub sections_meant : Parts → List Section
 sections_meant parts = map (section_meant (texts parts.names.items) (texts parts.words.items)) parts.sections.items
@@ -47,10 +43,6 @@ AreOnce names = (at : ℕ) → at < length names → place_of (text_at names at)
 abbrev pub IsTurnWithin : ℕ → OrderLine → Type 0
 IsTurnWithin cpus (turn.Cpu cpu) = cpu < cpus
 IsTurnWithin cpus turn.Round = Unit {0}
-
-abbrev pub turns_of : Option (List OrderLine) → List OrderLine
-turns_of None = []
-turns_of (Some turns) = turns
 
 abbrev pub AreTurnsWithin : ℕ → Option (List OrderLine) → Type 0
 AreTurnsWithin cpus None = Unit {0}

@@ -2,10 +2,10 @@
 use Rattle.std.specs.Prelude.{ℕ, List, length, map, All}
 use Rattle.kz_model.specs.declared.bundle.Bundle.{Bundle}
 use Rattle.kz_model.specs.declared.bundle.TraceStep.{TraceStep}
-use Rattle.kz_model.specs.Form.{Line}
-use Rattle.kz_model.specs.Text.{text_of_lines}
-use Rattle.kz_model.specs.Spelling.{line_text}
-use Rattle.kz_model.specs.Valid.{IsStepWithin}
+use Rattle.kz_model.specs.Grammar.Form.{Line}
+use Rattle.kz_model.specs.Text.Lines.{text_of_lines}
+use Rattle.kz_model.specs.Grammar.Spelling.{line_text}
+use Rattle.kz_model.specs.Grammar.Valid.{IsStepWithin}
 
 -- the text of these lines, each with its end
 abbrev pub lines_text : List Line → List ℕ

@@ -8,16 +8,16 @@ use Rattle.kz_model.specs.declared.grammar.Mark.{Mark}
 use Rattle.kz_model.specs.declared.grammar.Mark.TheVariants.{Fine}
 use Rattle.kz_model.specs.declared.grammar.Place.{Place}
 use Rattle.kz_model.specs.declared.grammar.Place.TheVariants as place
-use Rattle.kz_model.specs.Tokens.{is_name}
-use Rattle.kz_model.specs.Form.{Draft, is_last, cpu_line}
-use Rattle.kz_model.specs.Form as form
+use Rattle.kz_model.specs.Grammar.Tokens.{is_name}
+use Rattle.kz_model.specs.Grammar.Form.{Draft, is_last, cpu_line}
+use Rattle.kz_model.specs.Grammar.Form as form
 use Rattle.kz_bundle.specs.declared.fault.ReadBundleFault.{ReadBundleFault}
 use Rattle.kz_bundle.specs.declared.fault.ReadBundleFault.TheVariants as whole
-use Rattle.kz_bundle.specs.declared.parts.Parts.{Parts}
-use Rattle.kz_bundle.specs.declared.lines.Line.{Line}
-use Rattle.kz_bundle.specs.declared.reader.Fault.{Fault}
-use Rattle.kz_bundle.specs.declared.reader.Fault.TheVariants.{Refused, Memory}
-use Rattle.kz_bundle.specs.declared.reader.Reader.{Reader}
+use Rattle.kz_bundle.specs.declared.form.parts.Parts.{Parts}
+use Rattle.kz_bundle.specs.declared.form.lines.Line.{Line}
+use Rattle.kz_bundle.specs.declared.form.reader.Fault.{Fault}
+use Rattle.kz_bundle.specs.declared.form.reader.Fault.TheVariants.{Refused, Memory}
+use Rattle.kz_bundle.specs.declared.form.reader.Reader.{Reader}
 use Rattle.kz_bundle.specs.Parts.{section_meant, draft_of, IsPart, AreTurnsWithin}
 use Rattle.kz_bundle.specs.Lines.{Fits}
 
@@ -53,16 +53,17 @@ so_far r = record {
 }
 
 -- what holds by the place of the next line, with so many sections before the newest, and so many steps
-abbrev pub IsAt : Place → ℕ → ℕ → ℕ → Option (List OrderLine) → Type 0
-IsAt (place.Header at) cpus sections steps order = (at < 8) × (3 ≤ at → 1 ≤ cpus) × (sections ≡ 0) × (steps ≡ 0) × (order ≡ None)
-IsAt place.Types cpus sections steps order = (1 ≤ cpus) × (sections ≡ 0) × (steps ≡ 0)
-IsAt place.Steps cpus sections steps order = sections + 1 ≤ cpus
-IsAt place.Order cpus sections steps order = (sections + 1 ≡ cpus) × IsSome order
-IsAt place.Ended cpus sections steps order = sections + 1 ≡ cpus
+abbrev pub HoldsAtPlace : Place → ℕ → ℕ → ℕ → Option (List OrderLine) → Type 0
+HoldsAtPlace (place.Header at) cpus sections steps order = (at < 8) × (3 ≤ at → 1 ≤ cpus) × (sections ≡ 0) ×
+    (steps ≡ 0) × (order ≡ None)
+HoldsAtPlace place.Types cpus sections steps order = (1 ≤ cpus) × (sections ≡ 0) × (steps ≡ 0)
+HoldsAtPlace place.Steps cpus sections steps order = sections + 1 ≤ cpus
+HoldsAtPlace place.Order cpus sections steps order = (sections + 1 ≡ cpus) × IsSome order
+HoldsAtPlace place.Ended cpus sections steps order = sections + 1 ≡ cpus
 
 -- what was read keeps its bounds
 pub record IsReading (r : Reader) : Type 0 where
-  pub at : IsAt r.place r.header.cpus (length r.before.items) r.steps r.order
+  pub at : HoldsAtPlace r.place r.header.cpus (length r.before.items) r.steps r.order
   pub few_cpus : r.header.cpus ≤ 16
   pub types : length r.types ≤ 1024
   pub names : All (λ name. IsTrue (is_name name)) r.tables.names
@@ -90,9 +91,9 @@ abbrev pub FoundFits : Reader → Option (Line × Mark) → Type 0
 FoundFits r found = IfSome found (λ f. f.1 ≡ Fine → FitsAt r f.0)
 
 -- the next line of the header leaves so many CPUs
-abbrev pub IsNext : Place → ℕ → Type 0
-IsNext (place.Header at) cpus = (cpus ≤ 16) × (2 ≤ at → 1 ≤ cpus)
-IsNext other cpus = ⊥
+abbrev pub IsHeaderPlace : Place → ℕ → Type 0
+IsHeaderPlace (place.Header at) cpus = (cpus ≤ 16) × (2 ≤ at → 1 ≤ cpus)
+IsHeaderPlace other cpus = ⊥
 
 -- a section may begin
 abbrev pub MayOpen : Place → ℕ → ℕ → Type 0

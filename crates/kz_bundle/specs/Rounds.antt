@@ -1,8 +1,8 @@
 -- The steps that each CPU has in each round, in tables.
 use Rattle.std.specs.Prelude.{◌≡◌, ℕ, ◌<◌, ◌^◌, List, length, map, slice_index, All}
-use Rattle.kz_model.specs.Form.{Section}
-use Rattle.kz_model.specs.Stages.{left_in}
-use Rattle.kz_bundle.specs.declared.parts.Part.{Part}
+use Rattle.kz_model.specs.Grammar.Form.{Section}
+use Rattle.kz_model.specs.Grammar.Stages.{left_in}
+use Rattle.kz_bundle.specs.declared.form.parts.Part.{Part}
 
 -- what the tables have for a round
 abbrev pub column : List (List ℕ) → ℕ → List ℕ

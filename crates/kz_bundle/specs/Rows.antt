@@ -1,9 +1,9 @@
 -- Names by their first `a` or `z` lines, kept by number.
 use Rattle.std.specs.Prelude.{◌≡◌, ℕ, ◌+◌, ◌<◌, List, [], ◌∷◌, length, map, Option, None, Some, All, slice_index, slice_index_or}
 use Rattle.kz_model.specs.declared.bundle.NameRow.{NameRow}
-use Rattle.kz_model.specs.Spelling.{text_at}
-use Rattle.kz_model.specs.Stages.{Row, row_of, row_names, place_of}
-use Rattle.kz_bundle.specs.declared.entry.Entry.{Entry}
+use Rattle.kz_model.specs.Grammar.Spelling.{text_at}
+use Rattle.kz_model.specs.Grammar.Stages.{Row, row_of, row_names, place_of}
+use Rattle.kz_bundle.specs.declared.stages.entry.Entry.{Entry}
 
 -- what contracts see: the texts of names and types, and the rows
 pub record Rows : Type 0 where
@@ -24,7 +24,8 @@ no_entry = record { name = 0; of = 0; cpu = 0 }
 -- a name has this place among the rows, or none
 pub record IsPlaced (names words : List (List ℕ)) (entries : List Entry) (name place : ℕ) : Type 0 where
   pub within : place < length entries
-  pub row : row_of (text_at names name) (rows_meant names words entries) ≡ Some (row_meant names words (slice_index_or entries place no_entry))
+  pub row : row_of (text_at names name) (rows_meant names words entries)
+      ≡ Some (row_meant names words (slice_index_or entries place no_entry))
   pub number : place_of (text_at names name) (row_names (rows_meant names words entries)) ≡ place
   pub same : (slice_index_or entries place no_entry).name ≡ name
 
@@ -51,7 +52,8 @@ name_row types row = record { name = row.name; of = place_of row.of types }
 
 -- for each text of a table its place among declared names, or how many these are
 abbrev pub ArePlacesOf : List (List ℕ) → List (List ℕ) → List ℕ → Type 0
-ArePlacesOf types words places = (length places ≡ length words) × ((word : ℕ) → word < length words → slice_index places word ≡ place_of (text_at words word) types)
+ArePlacesOf types words places = (length places ≡ length words) ×
+    ((word : ℕ) → word < length words → slice_index places word ≡ place_of (text_at words word) types)
 
 -- an entry's row, with the number of its type by that of its word
 abbrev pub numbered_row : List (List ℕ) → List ℕ → Entry → NameRow

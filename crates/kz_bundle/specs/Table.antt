@@ -3,9 +3,9 @@ use Rattle.std.specs.Prelude.{◌≡◌, ℕ, ◌+◌, ◌*◌, ◌<◌, if◌th
 use Rattle.std.specs.Map.{lookup}
 use Rattle.std.specs.Str.{bytes_eq}
 use Rattle.std.specs.Option.{option_map_or}
-use Rattle.kz_model.specs.Steps.{Said}
-use Rattle.kz_model.specs.Stages.{has, place_of, name_in, type_in}
-use Rattle.kz_bundle.specs.declared.index.Index.{Index}
+use Rattle.kz_model.specs.Grammar.Steps.{NamedStep}
+use Rattle.kz_model.specs.Grammar.Stages.{has, place_of, name_in, type_in}
+use Rattle.kz_bundle.specs.declared.form.index.Index.{Index}
 
 -- the texts with one more, where it isn't there
 abbrev pub with_text : List ℕ → List (List ℕ) → List (List ℕ)
@@ -25,15 +25,16 @@ key_of (byte ∷ text) = byte + 256 * key_of text
 
 -- the number that an index has for a text: a short one is found by its key
 abbrev pub found : Index → List ℕ → Option ℕ
-found index text = if nat_le (length text) 7 then lookup (nat_eq (key_of text)) index.short.entries else lookup (λ key. bytes_eq text key.now) index.long.entries
+found index text = if nat_le (length text) 7 then lookup (nat_eq (key_of text)) index.short.entries
+    else lookup (λ key. bytes_eq text key.now) index.long.entries
 
 -- an index finds the number of each of these texts
 abbrev pub FindsTexts : Index → List (List ℕ) → Type 0
 FindsTexts index table = (text : List ℕ) → AreBytes text → found index text ≡ number_of text table
 
 -- the tables after a step line
-abbrev pub names_after : Said → List (List ℕ) → List (List ℕ)
+abbrev pub names_after : NamedStep → List (List ℕ) → List (List ℕ)
 names_after said names = option_map_or (λ name. with_text name names) (name_in said) names
 
-abbrev pub words_after : Said → List (List ℕ) → List (List ℕ)
+abbrev pub words_after : NamedStep → List (List ℕ) → List (List ℕ)
 words_after said words = option_map_or (λ of. with_text of words) (type_in said) words

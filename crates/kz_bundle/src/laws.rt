@@ -1,6 +1,6 @@
 //! Laws over the grammar of bundles, each the contract of a function that does nothing.
-ghost use Rattle.kz_model.specs.Spelling.{SpellingIsReading, OneText};
-ghost use Rattle.kz_model.specs.Valid.{ReadingIsValid};
+ghost use Rattle.kz_model.specs.Grammar.Spelling.{SpellingIsReading, OneText};
+ghost use Rattle.kz_model.specs.Grammar.Valid.{ReadingIsValid};
 
 /// What a text spells is what is read from it.
 pub fn spelling_is_reading()

@@ -1,40 +1,27 @@
 //! Bundles: read from bytes, and printed.
+//!
+//! `form/` reads the lines one after the other, `stages/` judges types, names, rounds and the order, `planned/` is for
+//! what needs the bundle's plan: which zone a line is addressed to, and how many lines each zone has. What is kept of a
+//! text is small: a type line as its text, a step by numbers. No loop goes over pairs of lines or of names.
+//!
+//! Contract: Ok is the bundle that the bytes spell, with the layouts of its types; else the refusal is their first
+//! fault. Laws say that the grammar and its reader agree, that a bundle has one text, and that what is read keeps to
+//! its limits.
 #![tactic(auto)]
 
-mod addressing;
-mod body;
-mod check;
-mod entry;
 mod fault;
 mod form;
-mod index;
-mod kinds;
-mod label;
 mod laws;
-mod lines;
-mod names;
-mod naming;
-mod numbers;
-mod parts;
+mod planned;
 mod printing;
 mod read;
-mod reader;
-mod room;
-mod rounds;
-mod scan;
-mod steps;
-mod tables;
-#[cfg(test)]
-mod tests;
-mod typing;
-mod words;
+mod stages;
 
-pub use addressing::addressed;
 pub use fault::ReadBundleFault;
-pub use kinds::count_kind;
 pub use kz_model::{Cause, Counted, Refusal};
 pub use laws::{a_bundle_has_one_text, spelling_is_reading, what_is_read_is_valid};
+pub use planned::addressing::addressed;
+pub use planned::rooms::{ZoneLoad, rooms, zone_loads};
 pub use printing::print_bundle;
 pub use read::{read_bundle, read_with_layouts};
-pub use room::rooms;
-pub use typing::bundle_layouts;
+pub use stages::typing::bundle_layouts;

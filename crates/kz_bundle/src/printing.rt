@@ -1,15 +1,15 @@
 //! The one text that reads as a bundle.
-ghost use Rattle.std.specs.Prelude.{◌≡◌, ◌<◌, ◌≤◌, false, [], ◌∷◌, ◌++◌, length, map, replicate, codes, decimal, All, IfOk, OnOk};
-ghost use Rattle.std.specs.Fmt.{digit_glyph};
+ghost use Rattle.std.specs.Prelude.{◌≡◌, ◌<◌, ◌≤◌, [], ◌∷◌, ◌++◌, length, map, replicate, codes, decimal, All, IfOk, OnOk};
 ghost use Rattle.std.specs.List.{flat_map, enumerate_from};
-ghost use Rattle.kz_model.specs.Form.{Break, Declares};
-ghost use Rattle.kz_model.specs.Spelling.{numbered, seed_text, said_text, said_of, text_at, names_in, types_in, header_lines, section_lines, cpu_lines, turn_of, order_lines, bundle_text};
-ghost use Rattle.kz_model.specs.Text.{hex_bytes};
-ghost use Rattle.kz_model.specs.Valid.{IsActWithin, IsValid};
+ghost use Rattle.kz_model.specs.Grammar.Form.{Break, Declares};
+ghost use Rattle.kz_model.specs.Grammar.Spelling.{numbered, seed_text, named_step_text, named_step_of, text_at, names_in, types_in, header_lines, section_lines, cpu_lines, turn_of, order_lines, bundle_text};
+ghost use Rattle.kz_model.specs.Text.Lines.{hex_bytes};
+ghost use Rattle.kz_model.specs.Store.Traces.{AreNumbered};
+ghost use Rattle.kz_model.specs.Grammar.Valid.{IsValid};
 ghost use Rattle.kz_bundle.specs.Printing.{lines_text, AreStepsWithin};
 
-use itoa::Buffer;
 use kz_model::{Act, Bundle, Items, OrderLine, Seed, Trace, Types};
+use kz_text::{push_decimal, push_hex};
 use std::alloc::{AllocError, Global};
 
 /// The one text that reads as this bundle.
@@ -74,7 +74,8 @@ fn print_types(out: &mut Vec<u8>, types: &Types) -> Result<(), AllocError>
 fn print_sections(out: &mut Vec<u8>, bundle: &Bundle) -> Result<(), AllocError>
     requires rounds { 1 ≤ bundle.now.rounds }
     requires steps { All (AreStepsWithin bundle.now) bundle.now.traces }
-    ensures { OnOk result (out.new.items ≡ out.old.items ++ lines_text (flat_map (cpu_lines bundle.now) (enumerate_from 0 bundle.now.traces))) }
+    ensures { OnOk result (out.new.items
+        ≡ out.old.items ++ lines_text (flat_map (cpu_lines bundle.now) (enumerate_from 0 bundle.now.traces))) }
 {
     for (cpu, trace) in bundle.traces.as_slice().iter().enumerate() {
         out.extend_from_slice(b"cpu")?;
@@ -114,8 +115,9 @@ fn print_breaks(out: &mut Vec<u8>, count: u32) -> Result<(), AllocError>
 
 /// A step line without its end.
 fn print_act(out: &mut Vec<u8>, bundle: &Bundle, act: &Act) -> Result<(), AllocError>
-    requires { IsActWithin (length bundle.now.names) (length bundle.now.types) act.now }
-    ensures { OnOk result (out.new.items ≡ out.old.items ++ said_text (said_of (names_in bundle.now) (types_in bundle.now) act.now)) }
+    requires { AreNumbered (length bundle.now.names) (length bundle.now.types) act.now }
+    ensures { OnOk result (out.new.items
+        ≡ out.old.items ++ named_step_text (named_step_of (names_in bundle.now) (types_in bundle.now) act.now)) }
 {
     macro_rules! word {
         (name $name:ident) => {
@@ -187,8 +189,7 @@ fn print_turn(out: &mut Vec<u8>, turn: OrderLine) -> Result<(), AllocError>
 {
     match turn {
         OrderLine::Cpu { cpu } => {
-            let mut digits = Buffer::new();
-            out.extend_from_slice(digits.format(cpu).as_bytes())?;
+            push_decimal(out, u64::from(cpu))?;
             out.extend_from_slice(b"\n")
         }
         OrderLine::Round => out.extend_from_slice(b"--\n"),
@@ -200,22 +201,7 @@ fn print_hex(out: &mut Vec<u8>, bytes: &[u8]) -> Result<(), AllocError>
     ensures { OnOk result (out.new.items ≡ out.old.items ++ (codes " " ++ hex_bytes bytes.now)) }
 {
     out.extend_from_slice(b" ")?;
-    for byte in bytes {
-        out.push(hex_digit(*byte / 16))?;
-        out.push(hex_digit(*byte % 16))?;
-    }
-    Ok(())
-}
-
-fn hex_digit(value: u8) -> u8
-    requires { value < 16 }
-    ensures { result ≡ digit_glyph false value }
-{
-    if value < 10 {
-        b'0' + value
-    } else {
-        b'a' + (value - 10)
-    }
+    push_hex(out, bytes)
 }
 
 /// A space and a word.
@@ -230,6 +216,6 @@ fn print_word(out: &mut Vec<u8>, word: &[u8]) -> Result<(), AllocError>
 fn print_number(out: &mut Vec<u8>, number: u64) -> Result<(), AllocError>
     ensures { OnOk result (out.new.items ≡ out.old.items ++ (codes " " ++ decimal number)) }
 {
-    let mut digits = Buffer::new();
-    print_word(out, digits.format(number).as_bytes())
+    out.extend_from_slice(b" ")?;
+    push_decimal(out, number)
 }

@@ -1,21 +1,21 @@
 //! The bundle of a text.
 ghost use Rattle.std.specs.Prelude.{◌≡◌, ◌≤◌, Ok, Err, Some, None, length, map, All, IfOk};
 ghost use Rattle.kz_model.specs.declared.grammar.Refusal.{Refusal as TheRefusal};
-ghost use Rattle.kz_model.specs.Traces.{renumbered_step};
-ghost use Rattle.kz_model.specs.Stages.{read, later_fault, bundle_of as bundle_of_draft};
-ghost use Rattle.kz_model.specs.Spelling.{Spells, IsFirstFault};
-ghost use Rattle.kz_model.specs.Layouts.{layouts_of};
-ghost use Rattle.kz_model.specs.Valid.{IsValid, layouts_in};
+ghost use Rattle.kz_model.specs.Store.Traces.{renumbered_step};
+ghost use Rattle.kz_model.specs.Grammar.Stages.{read, later_fault, bundle_of as bundle_of_draft};
+ghost use Rattle.kz_model.specs.Grammar.Spelling.{Spells, IsFirstFault};
+ghost use Rattle.kz_model.specs.Types.Layouts.{layouts_of};
+ghost use Rattle.kz_model.specs.Grammar.Valid.{IsValid, layouts_in};
 ghost use Rattle.kz_layout.specs.Laid.{IsSize};
 ghost use Rattle.kz_bundle.specs.Parts.{IsPart, AreParts, draft_of};
 ghost use Rattle.kz_bundle.specs.Numbers.{AreNumbers};
 
 use crate::ReadBundleFault;
+use crate::form::parts::{Part, Parts};
 use crate::form::read_form;
-use crate::numbers::{Numbers, read_names};
-use crate::parts::{Part, Parts};
-use crate::rounds::rounds_fault;
-use crate::typing::read_types;
+use crate::stages::numbers::{Numbers, read_names};
+use crate::stages::rounds::rounds_fault;
+use crate::stages::typing::read_types;
 use kz_model::{Bundle, Items, Layout, Refusal, Trace};
 use std::alloc::{AllocError, Global};
 
@@ -27,7 +27,8 @@ fn traces_of(
     types: &[u32],
 ) -> Result<Vec<Trace>, AllocError>
     requires { All (IsPart (length names.now) (length types.now)) sections.items }
-    ensures { IfOk result (λ traces. traces.items ≡ map (λ part. map (renumbered_step names.now types.now) part.steps) sections.items) }
+    ensures { IfOk result (λ traces. traces.items
+        ≡ map (λ part. map (renumbered_step names.now types.now) part.steps) sections.items) }
 {
     let mut traces = Vec::new(alloc);
     for section in sections {
@@ -88,7 +89,8 @@ fn judge(alloc: Global, parts: Parts<'_>) -> Result<(Bundle, Vec<Layout>), ReadB
     ensures layouts { IfOk result (λ read. layouts_of (draft_of parts.entry).types ≡ Ok read.1.items) }
     ensures few { IfOk result (λ read. length read.1.items ≤ 1024) }
     ensures sizes { IfOk result (λ read. All IsSize read.1.items) }
-    ensures refused { (refusal : TheRefusal) → result ≡ Err (ReadBundleFault.Refused refusal) → later_fault (draft_of parts.entry) ≡ Some refusal }
+    ensures refused { (refusal : TheRefusal) → result ≡ Err (ReadBundleFault.Refused refusal) →
+        later_fault (draft_of parts.entry) ≡ Some refusal }
 {
     let layouts = read_types(alloc, parts.header.budget, &parts.types)?;
     let numbers = read_names(alloc, &parts)?;
@@ -98,7 +100,8 @@ fn judge(alloc: Global, parts: Parts<'_>) -> Result<(Bundle, Vec<Layout>), ReadB
 
 /// The bundle that a text spells, with the layouts of its types.
 ///
-/// A refusal names the first fault: of the form, line by line; then of the types, of the names, and of the rounds and the order.
+/// A refusal names the first fault: of the form, line by line; then of the types, of the names, and of the rounds and
+/// the order.
 pub fn read_with_layouts(
     alloc: Global,
     bytes: &[u8],
@@ -110,7 +113,8 @@ pub fn read_with_layouts(
     ensures layouts { IfOk result (λ read. read.1.items ≡ layouts_in read.0) }
     ensures few { IfOk result (λ read. length read.1.items ≤ 1024) }
     ensures sizes { IfOk result (λ read. All IsSize read.1.items) }
-    ensures refused { (refusal : TheRefusal) → result ≡ Err (ReadBundleFault.Refused refusal) → IsFirstFault bytes.now refusal }
+    ensures refused { (refusal : TheRefusal) → result ≡ Err (ReadBundleFault.Refused refusal) →
+        IsFirstFault bytes.now refusal }
 {
     let parts = read_form(alloc, bytes)?;
     judge(alloc, parts)
@@ -122,7 +126,8 @@ pub fn read_bundle(alloc: Global, bytes: &[u8]) -> Result<Bundle, ReadBundleFaul
     ensures spells { IfOk result (λ b. Spells bytes.now b) }
     ensures read { IfOk result (λ b. read bytes.now ≡ Ok b) }
     ensures valid { IfOk result IsValid }
-    ensures refused { (refusal : TheRefusal) → result ≡ Err (ReadBundleFault.Refused refusal) → IsFirstFault bytes.now refusal }
+    ensures refused { (refusal : TheRefusal) → result ≡ Err (ReadBundleFault.Refused refusal) →
+        IsFirstFault bytes.now refusal }
 {
     let (bundle, _) = read_with_layouts(alloc, bytes)?;
     Ok(bundle)

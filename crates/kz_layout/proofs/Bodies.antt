@@ -8,8 +8,8 @@ use Rattle.std.proofs.lemmas.List.{length-replicate, replicate-append-replicate}
 use Rattle.kz_model.specs.declared.record.Layout.{Layout}
 use Rattle.std.proofs.lemmas.Nat.{le-div}
 use Rattle.kz_model.specs.declared.layout.LayoutCause.TheVariants.{TooLarge}
-use Rattle.kz_model.specs.Layouts.{offset_of, placed_at, with_cover}
-use Rattle.kz_model.specs.Cover.{Covered, over, at_offset, union_of, glyph, letter_of, letters_of, layout_of, plain, nothing_covered, placed, rounded, round_up, «data»}
+use Rattle.kz_model.specs.Types.Layouts.{offset_of, placed_at, with_cover}
+use Rattle.kz_model.specs.Types.Cover.{Covered, over, at_offset, union_of, glyph, letter_of, letters_of, layout_of, plain, nothing_covered, placed, rounded, round_up, «data»}
 use Rattle.kz_layout.specs.Granules.{blocks_for, block, unions, is_align, Granules, no_granules, Stands, AreFields, IsBody, AllStand, offset_at, laid_codes, layout_by_codes}
 use Rattle.kz_layout.proofs.Overs.{over-zeros, length-over, length-at_offset, le-round_up}
 use Rattle.kz_layout.proofs.Unions.{length-unions, unions-over, unions-replicate, unions-at_offset, unions-twice, unions-run, over-runs, blocks-max, blocks-exact}

@@ -4,7 +4,7 @@ use Rattle.std.proofs.Math.ListN.{get_or, set}
 use Rattle.std.specs.Int.Bits.{bit_or, or_zero_r}
 use Rattle.std.specs.List.{repeat}
 use Rattle.std.proofs.lemmas.List.{append-nil, append_assoc, take_more, length-append, length-replicate, length-take-le}
-use Rattle.kz_model.specs.Cover.{over, at_offset, round_up}
+use Rattle.kz_model.specs.Types.Cover.{over, at_offset, round_up}
 
 pub over-nil : (xs : List ℕ) → over xs [] ≡ xs
 over-nil [] = refl

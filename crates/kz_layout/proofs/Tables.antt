@@ -15,8 +15,9 @@ use Rattle.std.specs.Cmp.Lexicographic.{slice_cmp}
 use Rattle.std.specs.Ordering.{nat_cmp}
 use Rattle.std.specs.List.{position_from}
 use Rattle.kz_model.specs.declared.bundle.Field.{Field}
-use Rattle.kz_model.specs.Layouts.{Text, is, has, place_of}
-use Rattle.kz_layout.specs.Tables.{ArePlaces, AreNames, texts}
+use Rattle.kz_model.specs.Types.Layouts.{Text, is, has, place_of}
+use Rattle.kz_model.specs.Grammar.Tokens.{texts}
+use Rattle.kz_layout.specs.Tables.{ArePlaces, AreNames}
 use Rattle.kz_layout.specs.Shown.{field_names}
 
 flip : (a b : Text) → is a b ≡ is b a

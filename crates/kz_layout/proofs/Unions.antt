@@ -11,7 +11,7 @@ use Rattle.std.proofs.lemmas.Bool.{cases_lt}
 use Rattle.std.proofs.Math.Seq.{drop-append-add, take-append-add, take-add}
 use Rattle.std.proofs.lemmas.List.{ext_get_or, length-append, length-drop, length-replicate, get_or-replicate, get_or_past, get_or_append_left, get_or-append_right, take-append-le, drop-append-le, drop-replicate, drop-drop, drop_all, drop_more, take_all, nil_from_length}
 use Rattle.std.proofs.lemmas.List.FromFn.{get_or-map-range_with_len, length-map-range_with_len}
-use Rattle.kz_model.specs.Cover.{over, at_offset, union_of}
+use Rattle.kz_model.specs.Types.Cover.{over, at_offset, union_of}
 use Rattle.kz_layout.specs.Granules.{blocks_for, block, unions}
 use Rattle.kz_layout.proofs.Overs.{over-nil, length-over}
 

@@ -7,12 +7,12 @@ use Rattle.kz_model.specs.declared.bundle.TypeDecl.{TypeDecl}
 use Rattle.kz_model.specs.declared.layout.LayoutCause.{LayoutCause}
 use Rattle.kz_model.specs.declared.layout.LayoutCause.TheVariants.{SameName}
 use Rattle.kz_model.specs.declared.layout.LayoutFault.{LayoutFault}
-use Rattle.kz_model.specs.Cover.{Covered}
-use Rattle.kz_layout.specs.Shown.{Shows, types_at, with_own}
+use Rattle.kz_model.specs.Types.Cover.{Covered}
+use Rattle.kz_layout.specs.Shown.{ShowsInside, types_at, with_own}
 use Rattle.kz_layout.specs.Granules.{Granules, no_granules, AllStand, Stands, layout_by_codes}
 use Rattle.kz_layout.specs.Laid.{Laid, HasLaidOut}
 use Rattle.kz_layout.proofs.Bodies.{all_stand_more, layouts_stand, stands_nothing}
-use Rattle.kz_model.specs.Layouts.{Types, Inside, Text, inner_of, fields_from, one_field, own_cover, named, has, then_do, no_fields, whole, place_of, is_earlier, type_cover, types_from, found_at, with_earlier, names_of, all_layouts, layouts_of}
+use Rattle.kz_model.specs.Types.Layouts.{Types, Inside, Text, inner_of, fields_from, one_field, own_cover, named, has, then_do, no_fields, whole, place_of, is_earlier, type_cover, types_from, found_at, with_earlier, names_of, all_layouts, layouts_of}
 
 module _ (types : Types) (in_union : Bool) (names : List Text) (body : Covered) (f : Field) (rest : List Field) where
   abbrev so_far : Inside
@@ -46,14 +46,14 @@ module _ (types : Types) (in_union : Bool) (names : List Text) (body : Covered) 
 
 -- fields that have a byte show fields
 pub shows_more : (fields : Granules) (names : List Text) (name : Text) (m : Covered) → Stands fields m → 1 ≤ fields.size →
-    Shows fields (record { names = names ++ name ∷ []; body = m })
+    ShowsInside fields (record { names = names ++ name ∷ []; body = m })
 shows_more fields names name m stands some = record {
   stands = stands;
   empty = ne_eqb (length (names ++ name ∷ [])) 0 (λ none. omega (arith, none, length-append names (name ∷ []))) ∙ sym (ne_eqb fields.size 0 (λ none. omega (arith, none)));
 }
 
-pub shows_none : (fields : Granules) → fields ≡ no_granules → Shows fields no_fields
-shows_none fields none = subst (λ f. Shows f no_fields) (sym none) (record { stands = stands_nothing; empty = refl })
+pub shows_none : (fields : Granules) → fields ≡ no_granules → ShowsInside fields no_fields
+shows_none fields none = subst (λ f. ShowsInside f no_fields) (sym none) (record { stands = stands_nothing; empty = refl })
 
 module _ (types : Types) (decl : TypeDecl) where
   pub same_type : is_earlier (length types.earlier) (place_of decl.name types.names) ≡ true → type_cover types decl ≡ Err SameName

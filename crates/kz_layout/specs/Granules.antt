@@ -2,7 +2,7 @@
 use Rattle.std.specs.Prelude.{◌≡◌, ℕ, ◌+◌, ◌-◌, ◌*◌, ◌/◌, ◌%◌, ◌≤◌, ◌<◌, ◌||◌, ◌==◌, nat_lt, if◌then◌else◌, Bool, true, false, IsTrue, List, [], ◌∷◌, length, map, take, drop, replicate}
 use Rattle.std.specs.List.{range_with_len}
 use Rattle.kz_model.specs.declared.record.Layout.{Layout}
-use Rattle.kz_model.specs.Cover.{Covered, union_of, glyph, at_offset, round_up, «data»}
+use Rattle.kz_model.specs.Types.Cover.{Covered, union_of, glyph, at_offset, round_up, «data»}
 
 -- the least number of blocks of this length that hold n bytes
 abbrev pub blocks_for : ℕ → ℕ → ℕ
@@ -41,7 +41,8 @@ pub record IsBody (size align : ℕ) (codes : List ℕ) : Type 0 where
   pub some : 1 ≤ size
   pub multiple : size % align ≡ 0
 
--- The codes are those of the cover. Below the alignment of a pointer there is only data, and some in each block of the alignment.
+-- The codes are those of the cover. Below the alignment of a pointer there is only data, and some in each block of the
+-- alignment.
 pub record Stands (body : Granules) (covered : Covered) : Type 0 where
   pub size : covered.size ≡ body.size
   pub align : covered.align ≡ body.align
@@ -64,7 +65,8 @@ offset_at false size align = round_up size align
 -- The codes of a part's copies at an offset. A part of data alone fills each granule that its copies meet.
 abbrev pub laid_codes : ℕ → ℕ → Granules → List ℕ
 laid_codes offset count part =
-    if nat_lt part.align 8 then at_offset (offset / 8) (blocks_for 8 (offset + count * part.size) - offset / 8) («data» ∷ [])
+    if nat_lt part.align 8 then at_offset (offset / 8) (blocks_for 8 (offset + count * part.size) - offset / 8)
+    («data» ∷ [])
     else at_offset (offset / 8) count part.codes
 
 -- a type's layout, by the codes of its granules

@@ -2,8 +2,8 @@
 use Rattle.std.specs.Prelude.{◌≡◌, ◌≤◌, List, [], Ok}
 use Rattle.kz_model.specs.declared.bundle.TypeDecl.{TypeDecl}
 use Rattle.kz_model.specs.declared.record.Layout.{Layout}
-use Rattle.kz_model.specs.Cover.{Covered}
-use Rattle.kz_model.specs.Layouts.{Text, types_from}
+use Rattle.kz_model.specs.Types.Cover.{Covered}
+use Rattle.kz_model.specs.Types.Layouts.{Text, types_from}
 use Rattle.kz_layout.specs.Granules.{Granules, AllStand}
 use Rattle.kz_layout.specs.Shown.{types_at}
 

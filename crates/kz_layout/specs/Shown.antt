@@ -2,12 +2,12 @@
 use Rattle.std.specs.Prelude.{◌≡◌, ◌==◌, ℕ, Bool, List, length, map, Result}
 use Rattle.kz_model.specs.declared.bundle.Field.{Field}
 use Rattle.kz_model.specs.declared.layout.LayoutCause.{LayoutCause}
-use Rattle.kz_model.specs.Cover.{Covered}
-use Rattle.kz_model.specs.Layouts.{Inside, Types, Text, then_do, with_cover}
+use Rattle.kz_model.specs.Types.Cover.{Covered}
+use Rattle.kz_model.specs.Types.Layouts.{Inside, Types, Text, then_do, with_cover}
 use Rattle.kz_layout.specs.Granules.{Granules, Stands}
 
 -- the fields have the codes of the cover, and a byte where there is a field
-pub record Shows (fields : Granules) (inside : Inside) : Type 0 where
+pub record ShowsInside (fields : Granules) (inside : Inside) : Type 0 where
   pub stands : Stands fields inside.body
   pub empty : (length inside.names == 0) ≡ (fields.size == 0)
 

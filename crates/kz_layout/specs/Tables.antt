@@ -1,5 +1,5 @@
 -- Tables of names, against lists of names.
-use Rattle.std.specs.Prelude.{◌≡◌, ℕ, List, map}
+use Rattle.std.specs.Prelude.{◌≡◌, ℕ, List}
 use Rattle.std.specs.Borrow.{Bor}
 use Rattle.std.specs.BTreeMap as tree
 use Rattle.std.specs.BTreeMap.{BTreeMap}
@@ -7,11 +7,7 @@ use Rattle.std.specs.BTreeSet as sorted
 use Rattle.std.specs.BTreeSet.{BTreeSet}
 use Rattle.std.specs.Cmp.Lexicographic.{slice_cmp}
 use Rattle.std.specs.Ordering.{nat_cmp}
-use Rattle.kz_model.specs.Layouts.{Text, place_of, has}
-
--- names that are borrowed
-abbrev pub texts : List (Bor (List ℕ)) → List Text
-texts names = map (λ name. name.now) names
+use Rattle.kz_model.specs.Types.Layouts.{Text, place_of, has}
 
 -- the map has the first place of each name
 abbrev pub ArePlaces : BTreeMap (Bor (List ℕ)) ℕ → List Text → Type 0

@@ -1,8 +1,8 @@
 //! Fields and whole bodies: a size, an alignment, and a code for each granule of eight bytes, which is the union of the
 //! kinds that cover the granule's bytes.
 ghost use Rattle.std.specs.Prelude.{◌≡◌, ◌==◌, ◌+◌, ◌*◌, ◌/◌, ◌%◌, ◌≤◌, ◌<◌, IsTrue, IfOk, OnOk, length};
-ghost use Rattle.kz_model.specs.Cover.{Covered, over, plain as plain_cover, rounded as rounded_up, round_up as up_to, «data»};
-ghost use Rattle.kz_model.specs.Layouts.{with_cover};
+ghost use Rattle.kz_model.specs.Types.Cover.{Covered, over, plain as plain_cover, rounded as rounded_up, round_up as up_to, «data»};
+ghost use Rattle.kz_model.specs.Types.Layouts.{with_cover};
 ghost use Rattle.kz_layout.specs.Gives.{Gives};
 ghost use Rattle.kz_layout.specs.Granules.{is_align, no_granules, offset_at, laid_codes, layout_by_codes, Stands};
 ghost use Rattle.kz_layout.specs.Laid.{IsSize};
@@ -116,7 +116,8 @@ impl Fields {
     pub fn with_field(self, in_union: bool, count: u32, part: &Body) -> Result<Fields, LayoutCause>
         requires some { 1 ≤ count }
         requires few { count ≤ 8192 }
-        ensures gives { (before m : Covered) → Stands self before → Stands part.now m → Gives Stands result (with_cover in_union before count m) }
+        ensures gives { (before m : Covered) → Stands self before → Stands part.now m →
+            Gives Stands result (with_cover in_union before count m) }
         ensures some { IfOk result (λ fields. 1 ≤ fields.size) }
     {
         let Fields {

@@ -1,10 +1,10 @@
 //! The fields in some braces, one after the other.
 ghost use Rattle.std.specs.Prelude.{◌≤◌, ℕ, All, List, IfOk};
-ghost use Rattle.kz_model.specs.Cover.{Covered};
-ghost use Rattle.kz_model.specs.Layouts.{Inside, no_fields, whole as whole_by_fields, own_cover, inner_of as inner_by_kind, fields_from, IsSoundKind, IsSoundField};
+ghost use Rattle.kz_model.specs.Types.Cover.{Covered};
+ghost use Rattle.kz_model.specs.Types.Layouts.{Inside, no_fields, whole as whole_by_fields, own_cover, inner_of as inner_by_kind, fields_from, IsSoundKind, IsSoundField};
 ghost use Rattle.kz_layout.specs.Gives.{Gives};
 ghost use Rattle.kz_layout.specs.Granules.{AllStand, Stands};
-ghost use Rattle.kz_layout.specs.Shown.{Shows, types_at, with_own};
+ghost use Rattle.kz_layout.specs.Shown.{ShowsInside, types_at, with_own};
 
 use crate::body::{AUTHENTICATED, Body, DATA, Fields, POINTER};
 use crate::places::Places;
@@ -14,7 +14,7 @@ use std::collections::BTreeSet;
 
 /// Braces that hold a field, as a whole.
 pub fn whole(fields: Fields) -> Result<Body, LayoutCause>
-    ensures { (inside : Inside) → Shows fields inside → Gives Stands result (whole_by_fields inside) }
+    ensures { (inside : Inside) → ShowsInside fields inside → Gives Stands result (whole_by_fields inside) }
 {
     if fields.is_empty() {
         return Err(LayoutCause::Empty);
@@ -31,7 +31,8 @@ fn own_body(
     inner: Fields,
 ) -> Result<Body, LayoutCause>
     requires sound { (deep : ℕ) × IsSoundKind deep kind.now }
-    ensures { (covers : List Covered) (inside : Inside) → AllStand earlier.now covers → Shows inner inside → Gives Stands result (own_cover (types_at names.now covers) inside kind.now) }
+    ensures { (covers : List Covered) (inside : Inside) → AllStand earlier.now covers → ShowsInside inner inside →
+        Gives Stands result (own_cover (types_at names.now covers) inside kind.now) }
 {
     match kind {
         Kind::Ptr => Ok(Body::plain(alloc, 8, 8, POINTER)?),
@@ -63,7 +64,10 @@ fn with_one(
     inner: Fields,
 ) -> Result<Fields, LayoutCause>
     requires sound { (deep : ℕ) × IsSoundField deep field.now }
-    ensures gives { (covers : List Covered) (inside : Inside) (before : Covered) → AllStand earlier.now covers → Shows inner inside → Stands fields before → Gives Stands result (with_own in_union before field.now.count (own_cover (types_at names.now covers) inside field.now.kind)) }
+    ensures gives { (covers : List Covered) (inside : Inside) (before : Covered) → AllStand earlier.now covers →
+        ShowsInside inner inside → Stands fields before →
+        Gives Stands result (with_own in_union before field.now.count
+        (own_cover (types_at names.now covers) inside field.now.kind)) }
     ensures some { IfOk result (λ more. 1 ≤ more.size) }
 {
     let part = own_body(alloc, names, earlier, &field.kind, inner)?;
@@ -79,7 +83,8 @@ fn inner_of(
     kind: &Kind,
 ) -> Result<Fields, LayoutCause>
     requires { (deep : ℕ) × IsSoundKind deep kind.now }
-    ensures { (covers : List Covered) → AllStand earlier.now covers → Gives Shows result (inner_by_kind (types_at names.now covers) kind.now) }
+    ensures { (covers : List Covered) → AllStand earlier.now covers →
+        Gives ShowsInside result (inner_by_kind (types_at names.now covers) kind.now) }
 {
     match kind {
         Kind::Union { fields } => { fields_of(alloc, names, earlier, true, fields.as_slice()) }
@@ -104,7 +109,8 @@ pub fn fields_of(
     fields: &[Field],
 ) -> Result<Fields, LayoutCause>
     requires { (deep : ℕ) × All (IsSoundField deep) fields.now }
-    ensures { (covers : List Covered) → AllStand earlier.now covers → Gives Shows result (fields_from (types_at names.now covers) in_union no_fields fields.now) }
+    ensures { (covers : List Covered) → AllStand earlier.now covers →
+        Gives ShowsInside result (fields_from (types_at names.now covers) in_union no_fields fields.now) }
 {
     let mut seen = BTreeSet::new(alloc);
     let mut so_far = Fields::new(alloc);

@@ -1,13 +1,13 @@
 //! A layouter, which takes one declaration at a time.
 ghost use Rattle.std.specs.Prelude.{◌≡◌, ◌≢◌, ◌≤◌, All, List, Ok, Err, [], ◌∷◌, ◌++◌, map, length, IfOk, IfErr};
 ghost use Rattle.kz_model.specs.declared.bundle.TypeDecl.{TypeDecl};
-ghost use Rattle.kz_model.specs.Cover.{Covered};
-ghost use Rattle.kz_model.specs.Layouts.{is_earlier, layouts_of, names_of, place_of, type_cover, IsSoundField};
+ghost use Rattle.kz_model.specs.Types.Cover.{Covered};
+ghost use Rattle.kz_model.specs.Types.Layouts.{is_earlier, layouts_of, names_of, place_of, type_cover, IsSoundField};
 ghost use Rattle.kz_layout.specs.Gives.{Gives};
 ghost use Rattle.kz_layout.specs.Granules.{layout_by_codes, AllStand, Stands};
 ghost use Rattle.kz_layout.specs.Laid.{HasLaidOut, IsSize};
 ghost use Rattle.kz_layout.specs.Shown.{types_at};
-ghost use Rattle.kz_layout.specs.Tables.{texts};
+ghost use Rattle.kz_model.specs.Grammar.Tokens.{texts};
 
 use crate::body::{Body, layout_of};
 use crate::braces::{fields_of, whole};
@@ -34,7 +34,8 @@ fn type_body(
     decl: &TypeDecl,
 ) -> Result<Body, LayoutCause>
     requires { All (IsSoundField 8) decl.now.fields }
-    ensures { (covers : List Covered) → AllStand earlier.now covers → Gives Stands result (type_cover (types_at names.now covers) decl.now) }
+    ensures { (covers : List Covered) → AllStand earlier.now covers →
+        Gives Stands result (type_cover (types_at names.now covers) decl.now) }
 {
     if is_taken(names, earlier.len(), &decl.name) {
         return Err(LayoutCause::SameName);
@@ -91,8 +92,11 @@ impl<'a> Layouter<'a> {
     pub fn add(&mut self, decl: &TypeDecl) -> Result<(), LayoutCause>
         requires { All (IsSoundField 8) decl.now.fields }
         ensures names { self.new.names ≡ self.old.names }
-        ensures ok { IfOk result (λ _. (decls : List TypeDecl) → HasLaidOut self.old decls → HasLaidOut self.new (decls ++ decl.now ∷ [])) }
-        ensures fault { IfErr result (λ cause. cause ≢ LayoutCause.Memory → (decls more : List TypeDecl) → HasLaidOut self.old decls → names_of (decls ++ decl.now ∷ more) ≡ self.old.names → layouts_of (decls ++ decl.now ∷ more) ≡ Err (record { at = length decls; cause = cause })) }
+        ensures ok { IfOk result (λ _. (decls : List TypeDecl) → HasLaidOut self.old decls →
+            HasLaidOut self.new (decls ++ decl.now ∷ [])) }
+        ensures fault { IfErr result (λ cause. cause ≢ LayoutCause.Memory → (decls more : List TypeDecl) →
+            HasLaidOut self.old decls → names_of (decls ++ decl.now ∷ more) ≡ self.old.names →
+            layouts_of (decls ++ decl.now ∷ more) ≡ Err (record { at = length decls; cause = cause })) }
     {
         let body = type_body(self.alloc, &self.names, self.bodies.as_slice(), decl)?;
         if self.bodies.push(body).is_err() {
@@ -103,7 +107,8 @@ impl<'a> Layouter<'a> {
 
     /// The layouts, once all declarations were laid out.
     pub fn finish(self, alloc: Global) -> Result<Vec<Layout>, AllocError>
-        ensures ok { IfOk result (λ all. (decls : List TypeDecl) → HasLaidOut self.entry decls → names_of decls ≡ self.entry.names → layouts_of decls ≡ Ok all.items) }
+        ensures ok { IfOk result (λ all. (decls : List TypeDecl) → HasLaidOut self.entry decls → names_of decls
+            ≡ self.entry.names → layouts_of decls ≡ Ok all.items) }
         ensures sizes { IfOk result (λ all. All IsSize all.items) }
     {
         layouts_of_all(alloc, self.bodies.as_slice())

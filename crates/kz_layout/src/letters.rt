@@ -1,6 +1,6 @@
 //! The letters of granules.
 ghost use Rattle.std.specs.Prelude.{◌≡◌, map, IfOk};
-ghost use Rattle.kz_model.specs.Cover.{glyph as glyph_by_code};
+ghost use Rattle.kz_model.specs.Types.Cover.{glyph as glyph_by_code};
 
 use std::alloc::{AllocError, Global};
 

@@ -1,4 +1,11 @@
 //! The layouts of declared types: sizes, alignments, and the letters of what covers their granules.
+//!
+//! A `Layouter` takes one declaration at a time and borrows nothing of it, so a reader may drop each as it goes. The
+//! definition covers a type byte by byte; the code keeps one code for each granule of eight bytes. Its work is linear
+//! in the declarations and in the granules that fields cover, whatever their counts are. Names are found in ordered
+//! trees.
+//!
+//! Contract: the layouts are the definition's, or the fault is its first, with its place.
 #![tactic(auto)]
 
 mod body;
@@ -7,8 +14,6 @@ mod layouter;
 mod letters;
 mod over;
 mod places;
-#[cfg(test)]
-mod tests;
 mod types;
 
 pub use kz_model::{LayoutCause, LayoutFault};

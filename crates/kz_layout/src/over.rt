@@ -1,6 +1,6 @@
 //! Codes over one another, granule by granule.
 ghost use Rattle.std.specs.Prelude.{◌≡◌, ◌+◌, ◌*◌, ◌≤◌, ◌++◌, length, replicate, OnOk};
-ghost use Rattle.kz_model.specs.Cover.{over, at_offset};
+ghost use Rattle.kz_model.specs.Types.Cover.{over, at_offset};
 
 use std::alloc::AllocError;
 

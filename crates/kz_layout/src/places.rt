@@ -1,7 +1,7 @@
 //! Where each type is declared first.
 ghost use Rattle.std.specs.Prelude.{◌≡◌, ◌≤◌, length, IfOk};
-ghost use Rattle.kz_model.specs.Layouts.{place_of};
-ghost use Rattle.kz_layout.specs.Tables.{texts};
+ghost use Rattle.kz_model.specs.Types.Layouts.{place_of};
+ghost use Rattle.kz_model.specs.Grammar.Tokens.{texts};
 
 use std::alloc::{AllocError, Global};
 use std::collections::BTreeMap;
@@ -15,9 +15,9 @@ pub struct Places<'a> {
 }
 
 impl<'a> Model for Places<'a> {
-    ghost use Rattle.kz_model.specs.Layouts.{Text};
+    ghost use Rattle.kz_model.specs.Types.Layouts.{Text};
     ghost use Rattle.std.specs.Prelude.{List};
-    ghost use Rattle.kz_layout.specs.Tables.{texts};
+    ghost use Rattle.kz_model.specs.Grammar.Tokens.{texts};
 
     ghost Value = { List Text };
 

@@ -1,8 +1,8 @@
 //! The layouts of declarations.
 ghost use Rattle.std.specs.Prelude.{◌≡◌, ◌≢◌, All, Ok, Err, IfOk, IfErr};
-ghost use Rattle.kz_model.specs.Layouts.{layouts_of, names_of, AreInRange};
+ghost use Rattle.kz_model.specs.Types.Layouts.{layouts_of, names_of, AreInRange};
 ghost use Rattle.kz_layout.specs.Laid.{IsSize};
-ghost use Rattle.kz_layout.specs.Tables.{texts};
+ghost use Rattle.kz_model.specs.Grammar.Tokens.{texts};
 
 use crate::layouter::Layouter;
 use kz_model::{Layout, LayoutCause, LayoutFault, TypeDecl};

@@ -1,6 +1,6 @@
 -- How many there are of each.
 use Rattle.std.proofs.Common.{◌≡◌, ℕ, refl}
-use Rattle.kz_model.specs.Made.{types_count, names_count, drawn_count, later_count}
+use Rattle.kz_model.specs.Text.Made.{types_count, names_count, drawn_count, later_count}
 
 pub types_are : types_count ≡ 40
 unfolding types_count

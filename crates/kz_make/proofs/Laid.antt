@@ -18,15 +18,15 @@ use Rattle.kz_model.specs.declared.record.Layout.{Layout}
 use Rattle.kz_model.specs.declared.layout.LayoutCause.{LayoutCause}
 use Rattle.kz_model.specs.declared.layout.LayoutCause.TheVariants.{SameName, Empty, TooLarge}
 use Rattle.kz_model.specs.declared.layout.LayoutFault.{LayoutFault}
-use Rattle.kz_model.specs.Class.{class_of, kalloc_sizes}
-use Rattle.kz_model.specs.Cover.{Covered, plain, placed, rounded, round_up, layout_of, is_data_only, pointer, «data», authenticated}
-use Rattle.kz_model.specs.Layouts.{Text, Types, Inside, no_fields, is, has, place_of, then_do, whole, inner_of, own_cover, offset_of, placed_at, with_cover, named, one_field, fields_from, is_earlier, type_cover, found_at, with_earlier, types_from, names_of, all_layouts, layouts_of}
-use Rattle.kz_model.specs.Plan.{all_classes, class_at, is_general, classes_in_use}
-use Rattle.kz_model.specs.Spelling.{IsName, IsKind, IsField, IsDeclared}
-use Rattle.kz_model.specs.Stages.{fault_if, fault_of_layouts, has as is_among}
-use Rattle.kz_model.specs.Tokens.{is as is_text}
+use Rattle.kz_model.specs.Types.Class.{class_of, kalloc_sizes}
+use Rattle.kz_model.specs.Types.Cover.{Covered, plain, placed, rounded, round_up, layout_of, is_data_only, pointer, «data», authenticated}
+use Rattle.kz_model.specs.Types.Layouts.{Text, Types, Inside, no_fields, is, has, place_of, then_do, whole, inner_of, own_cover, offset_of, placed_at, with_cover, named, one_field, fields_from, is_earlier, type_cover, found_at, with_earlier, types_from, names_of, all_layouts, layouts_of}
+use Rattle.kz_model.specs.Types.Plan.{all_classes, class_at, is_general, classes_in_use}
+use Rattle.kz_model.specs.Grammar.Spelling.{IsName, IsKind, IsField, IsDeclared}
+use Rattle.kz_model.specs.Grammar.Stages.{fault_if, fault_of_layouts, has as is_among}
+use Rattle.kz_model.specs.Grammar.Tokens.{is as is_text}
 use Rattle.kz_bundle.proofs.Choices.{is_itself}
-use Rattle.kz_model.specs.Made.{drawn, kind_by, kind_made, field_made, fields_made, fields_of_type, type_text, type_made, types_made}
+use Rattle.kz_model.specs.Text.Made.{drawn, kind_by, kind_made, field_made, fields_made, fields_of_type, type_text, type_made, types_made}
 use Rattle.kz_make.proofs.Naming.{lettered_same, type_is_name, field_is_name}
 
 -- ---- kinds

@@ -10,10 +10,10 @@ use Rattle.kz_model.specs.declared.grammar.Place.TheVariants as place
 use Rattle.kz_model.specs.declared.grammar.Cause.TheVariants as cause
 use Rattle.kz_model.specs.declared.grammar.Counted.TheVariants as counted
 use Rattle.kz_model.specs.declared.grammar.Header.{Header}
-use Rattle.kz_model.specs.Steps.{Said}
-use Rattle.kz_model.specs.Form.{Line, Machine, SeedOf, Cpus, Frames, Pages, Budget, Magazine, Depot, Declares, Opens, Does, Break, Orders, Turns, Ends, SaidLine, Section, Draft, new_section, nothing_said, with_line}
-use Rattle.kz_model.specs.Spelling.{IsDeclared, IsSaid, IsFrom, IsAllowed, Leads, turn_of}
-use Rattle.kz_model.specs.Made.{later_lines}
+use Rattle.kz_model.specs.Grammar.Steps.{NamedStep}
+use Rattle.kz_model.specs.Grammar.Form.{Line, Machine, SeedOf, Cpus, Frames, Pages, Budget, Magazine, Depot, Declares, Opens, Does, Break, Orders, Turns, Ends, StepLine, Section, Draft, new_section, empty_draft, with_line}
+use Rattle.kz_model.specs.Grammar.Spelling.{IsDeclared, IsNamedStep, IsFrom, IsAllowed, Leads, turn_of}
+use Rattle.kz_model.specs.Text.Made.{later_lines}
 
 -- ---- lines behind lines
 
@@ -62,28 +62,28 @@ leads_types h types (decl ∷ decls) n few all =
 -- ---- steps
 
 -- step lines from this number on
-abbrev pub numbered : ℕ → ℕ → List Said → List SaidLine
+abbrev pub numbered : ℕ → ℕ → List NamedStep → List StepLine
 numbered line round [] = []
 numbered line round (said ∷ saids) = record { line = line; round = round; said = said } ∷ numbered (line + 1) round saids
 
-abbrev pub with_saids : Section → ℕ → List Said → Section
+abbrev pub with_saids : Section → ℕ → List NamedStep → Section
 with_saids section line saids = record section { steps = section.steps ++ numbered line section.breaks saids }
 
-pub leads_saids : (h : Header) (types : List TypeDecl) (before : List Section) (section : Section) (steps n : ℕ) (saids : List Said) → steps + length saids ≤ 1000000 → All (IsSaid h.cpus) saids →
+pub leads_saids : (h : Header) (types : List TypeDecl) (before : List Section) (section : Section) (steps n : ℕ) (saids : List NamedStep) → steps + length saids ≤ 1000000 → All (IsNamedStep h.cpus) saids →
     Leads (in_steps h types before section steps) n (map Does saids) (in_steps h types before (with_saids section n saids) (steps + length saids))
-leads_saids h types before section steps n [] few all = let none : steps ≡ steps + 0 = omega arith in ap (λ section. in_steps h types before section steps) (ap (λ (lines : List SaidLine). record section { steps = lines }) (sym (append-nil section.steps))) ∙ ap (in_steps h types before (with_saids section n [])) none
+leads_saids h types before section steps n [] few all = let none : steps ≡ steps + 0 = omega arith in ap (λ section. in_steps h types before section steps) (ap (λ (lines : List StepLine). record section { steps = lines }) (sym (append-nil section.steps))) ∙ ap (in_steps h types before (with_saids section n [])) none
 leads_saids h types before section steps n (said ∷ saids) few all =
     let one : Section = with_saids section n (said ∷ []) in
     let free = not_full steps 1000000 (omega (arith, few)) in
     let count : steps + 1 + length saids ≡ steps + suc (length saids) = omega arith in
-    let rest = leads_saids h types before one (steps + 1) (n + 1) saids (omega (arith, few)) (All-tail (IsSaid h.cpus) said saids all) in (
-      All-head (IsSaid h.cpus) said saids all,
+    let rest = leads_saids h types before one (steps + 1) (n + 1) saids (omega (arith, few)) (All-tail (IsNamedStep h.cpus) said saids all) in (
+      All-head (IsNamedStep h.cpus) said saids all,
       (
         in_steps h types before one (steps + 1),
         (
           ap (λ b. if b then Err (cause.TooMany counted.Steps) else Ok (in_steps h types before one (steps + 1))) free,
           subst (λ count. Leads (in_steps h types before one (steps + 1)) (n + 1) (map Does saids) (in_steps h types before (with_saids section n (said ∷ saids)) count)) count
-              (subst (λ (lines : List SaidLine). Leads (in_steps h types before one (steps + 1)) (n + 1) (map Does saids) (in_steps h types before (record section { steps = lines }) (steps + 1 + length saids)))
+              (subst (λ (lines : List StepLine). Leads (in_steps h types before one (steps + 1)) (n + 1) (map Does saids) (in_steps h types before (record section { steps = lines }) (steps + 1 + length saids)))
               (append_assoc section.steps (numbered n section.breaks (said ∷ [])) (numbered (n + 1) section.breaks saids)) rest),
         ),
       ),
@@ -95,23 +95,23 @@ abbrev pub with_break : Section → Section
 with_break section = record section { breaks = section.breaks + 1 }
 
 -- a section with more rounds, whose lines have these numbers
-abbrev pub with_rounds : Section → ℕ → List (List Said) → Section
+abbrev pub with_rounds : Section → ℕ → List (List NamedStep) → Section
 with_rounds section line [] = section
 with_rounds section line (round ∷ rounds) = with_rounds (with_saids (with_break section) (line + 1) round) (line + 1 + length round) rounds
 
 -- how many steps they have
-abbrev pub steps_of : List (List Said) → ℕ
+abbrev pub steps_of : List (List NamedStep) → ℕ
 steps_of [] = 0
 steps_of (round ∷ rounds) = length round + steps_of rounds
 
-pub leads_rounds : (h : Header) (types : List TypeDecl) (before : List Section) (section : Section) (steps n : ℕ) (rounds : List (List Said)) → section.breaks + length rounds ≤ 999 → steps + steps_of rounds ≤ 1000000 →
-    All (All (IsSaid h.cpus)) rounds → Leads (in_steps h types before section steps) n (later_lines rounds) (in_steps h types before (with_rounds section n rounds) (steps + steps_of rounds))
+pub leads_rounds : (h : Header) (types : List TypeDecl) (before : List Section) (section : Section) (steps n : ℕ) (rounds : List (List NamedStep)) → section.breaks + length rounds ≤ 999 → steps + steps_of rounds ≤ 1000000 →
+    All (All (IsNamedStep h.cpus)) rounds → Leads (in_steps h types before section steps) n (later_lines rounds) (in_steps h types before (with_rounds section n rounds) (steps + steps_of rounds))
 leads_rounds h types before section steps n [] few short all = let none : steps ≡ steps + 0 = omega arith in ap (in_steps h types before section) none
 leads_rounds h types before section steps n (round ∷ rounds) few short all =
     let free = not_full section.breaks 999 (omega (arith, few)) in
     let one = with_saids (with_break section) (n + 1) round in
-    let first = leads_saids h types before (with_break section) steps (n + 1) round (omega (arith, short)) (All-head (All (IsSaid h.cpus)) round rounds all) in
-    let later = leads_rounds h types before one (steps + length round) (n + 1 + length round) rounds (omega (arith, few)) (omega (arith, short)) (All-tail (All (IsSaid h.cpus)) round rounds all) in
+    let first = leads_saids h types before (with_break section) steps (n + 1) round (omega (arith, short)) (All-head (All (IsNamedStep h.cpus)) round rounds all) in
+    let later = leads_rounds h types before one (steps + length round) (n + 1 + length round) rounds (omega (arith, few)) (omega (arith, short)) (All-tail (All (IsNamedStep h.cpus)) round rounds all) in
     let count : steps + length round + steps_of rounds ≡ steps + (length round + steps_of rounds) = omega arith in
     let lines : n + 1 + length round ≡ n + 1 + length (map Does round) = omega (arith, length-map round Does) in (
       tt,
@@ -129,15 +129,15 @@ leads_rounds h types before section steps n (round ∷ rounds) few short all =
 -- ---- sections
 
 -- a section of a first round and later ones, whose `cpu` line has this number
-abbrev pub section_of : ℕ → List Said → List (List Said) → Section
+abbrev pub section_of : ℕ → List NamedStep → List (List NamedStep) → Section
 section_of line first later = with_rounds (with_saids (new_section line) (line + 1) first) (line + 1 + length first) later
 
-abbrev pub lines_of_section : List Said → List (List Said) → List Line
+abbrev pub lines_of_section : List NamedStep → List (List NamedStep) → List Line
 lines_of_section first later = map Does first ++ later_lines later
 
 -- the lines behind a `cpu` line
-pub leads_section : (h : Header) (types : List TypeDecl) (before : List Section) (steps n : ℕ) (first : List Said) (later : List (List Said)) → length later ≤ 999 → steps + (length first + steps_of later) ≤ 1000000 →
-    All (IsSaid h.cpus) first → All (All (IsSaid h.cpus)) later →
+pub leads_section : (h : Header) (types : List TypeDecl) (before : List Section) (steps n : ℕ) (first : List NamedStep) (later : List (List NamedStep)) → length later ≤ 999 → steps + (length first + steps_of later) ≤ 1000000 →
+    All (IsNamedStep h.cpus) first → All (All (IsNamedStep h.cpus)) later →
     Leads (in_steps h types before (new_section n) steps) (n + 1) (lines_of_section first later) (in_steps h types before (section_of n first later) (steps + (length first + steps_of later)))
 leads_section h types before steps n first later few short all_first all_later =
     let one = with_saids (new_section n) (n + 1) first in

@@ -1,8 +1,8 @@
 -- What a loop has left to write, which draws words of a number's stream.
 use Rattle.std.proofs.Common.{◌≡◌, ℕ, suc, ◌+◌, ◌-◌, List, [], ◌++◌, Option, refl, ap, sym, ◌∙◌, arith, add-one, append_assoc, append-nil}
 use Rattle.rand_pcg.specs.Lcg.{Lcg}
-use Rattle.kz_model.specs.Words.{word_of, rest_of}
-use Rattle.kz_model.specs.Made.{drawn}
+use Rattle.kz_model.specs.Zone.Words.{word_of, rest_of}
+use Rattle.kz_model.specs.Text.Made.{drawn}
 use Rattle.kz_make.specs.Writing.{words_at, IsWritten}
 
 -- The stream stands at some word. From there `text` is left to write, and then the words have come to `last`.

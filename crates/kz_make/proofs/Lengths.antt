@@ -5,12 +5,12 @@ use Rattle.std.specs.List.{list_all}
 use Rattle.std.proofs.lemmas.Fmt.{length-decimal-le}
 use Rattle.std.proofs.lemmas.List.Elements.{All-head, All-tail}
 use Rattle.kz_model.specs.declared.bundle.Seed.TheVariants.{Number}
-use Rattle.kz_model.specs.Tokens.{is_small, is_name_byte}
-use Rattle.kz_model.specs.Text.{hex_bytes, hex_of_byte}
-use Rattle.kz_model.specs.Steps.{Said, Alloc, AllocZero, Free, FreeAs, Give, Take, Read, Write, Flush, Trim}
-use Rattle.kz_model.specs.Form.{Line, Machine, SeedOf, Cpus, Frames, Pages, Budget, Magazine, Depot, Declares, Opens, Does, Break, Orders, Turns, Ends}
-use Rattle.kz_model.specs.Spelling.{spaced, numbered, kind_text, field_text, fields_text, more_fields_text, body_text, said_text, line_text, IsName, IsSaid}
-use Rattle.kz_model.specs.Made.{types_count, names_count, drawn_count, later_count, drawn, kind_by, kind_made, field_made, fields_made, fields_of_type, type_text, type_made, types_made, after_types, first_round, rounds_drawn, later_lines, section_made, sections_made, turns_made, later_turns, order_made, header_made, made_text}
+use Rattle.kz_model.specs.Grammar.Tokens.{is_small, is_name_byte}
+use Rattle.kz_model.specs.Text.Lines.{hex_bytes, hex_of_byte}
+use Rattle.kz_model.specs.Grammar.Steps.{NamedStep, Alloc, AllocZero, Free, FreeAs, Give, Take, Read, Write, Flush, Trim}
+use Rattle.kz_model.specs.Grammar.Form.{Line, Machine, SeedOf, Cpus, Frames, Pages, Budget, Magazine, Depot, Declares, Opens, Does, Break, Orders, Turns, Ends}
+use Rattle.kz_model.specs.Grammar.Spelling.{spaced, numbered, kind_text, field_text, fields_text, more_fields_text, body_text, named_step_text, line_text, IsName, IsNamedStep}
+use Rattle.kz_model.specs.Text.Made.{types_count, names_count, drawn_count, later_count, drawn, kind_by, kind_made, field_made, fields_made, fields_of_type, type_text, type_made, types_made, after_types, first_round, rounds_drawn, later_lines, section_made, sections_made, turns_made, later_turns, order_made, header_made, made_text}
 use Rattle.kz_bundle.specs.Printing.{lines_text}
 use Rattle.kz_bundle.proofs.Choices.{right}
 use Rattle.kz_make.proofs.Counts.{types_are, names_are, drawn_are}
@@ -18,7 +18,7 @@ use Rattle.kz_make.proofs.Counts.{later_are as later_counted}
 use Rattle.kz_make.proofs.Leading.{steps_of}
 use Rattle.kz_make.proofs.Naming.{type_is_name, field_is_name}
 use Rattle.kz_make.proofs.Ruled.{length-rounds_drawn, steps_of_cpu}
-use Rattle.kz_make.proofs.SaidsMade.{IsStepOf, first_are, later_are}
+use Rattle.kz_make.proofs.NamedStepsMade.{IsStepOf, first_are, later_are}
 
 -- ---- words
 
@@ -109,7 +109,7 @@ types_short number j t (suc more) few =
 
 -- ---- steps
 
-said_short : (said : Said) → IsSaid 4 said → length (said_text said) ≤ 126
+said_short : (said : NamedStep) → IsNamedStep 4 said → length (named_step_text said) ≤ 126
 said_short (Alloc name of) is = omega (arith, length-spaced (codes "a") (spaced name of), length-spaced name of, name_short name is.0, name_short of is.1)
 said_short (AllocZero name of) is = omega (arith, length-spaced (codes "z") (spaced name of), length-spaced name of, name_short name is.0, name_short of is.1)
 said_short (Free name) is = omega (arith, length-spaced (codes "f") name, name_short name is)
@@ -139,12 +139,12 @@ said_short (Write name off bytes) is =
 said_short (Flush of) is = omega (arith, length-spaced (codes "flush") of, name_short of is)
 said_short (Trim of) is = omega (arith, length-spaced (codes "trim") of, name_short of is)
 
-steps_short : (cpu : ℕ) (saids : List Said) → All (IsStepOf cpu) saids → size (map Does saids) ≤ 127 * length saids
+steps_short : (cpu : ℕ) (saids : List NamedStep) → All (IsStepOf cpu) saids → size (map Does saids) ≤ 127 * length saids
 steps_short cpu [] all = omega arith
 steps_short cpu (said ∷ saids) all =
     omega (arith, size-cons (Does said) (map Does saids), said_short said (All-head (IsStepOf cpu) said saids all).said, steps_short cpu saids (All-tail (IsStepOf cpu) said saids all))
 
-rounds_short : (cpu : ℕ) (rounds : List (List Said)) → All (All (IsStepOf cpu)) rounds → size (later_lines rounds) ≤ 3 * length rounds + 127 * steps_of rounds
+rounds_short : (cpu : ℕ) (rounds : List (List NamedStep)) → All (All (IsStepOf cpu)) rounds → size (later_lines rounds) ≤ 3 * length rounds + 127 * steps_of rounds
 rounds_short cpu [] all = omega arith
 rounds_short cpu (round ∷ rounds) all =
     omega (

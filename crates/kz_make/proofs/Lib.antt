@@ -9,8 +9,8 @@ pub mod Pieces
 pub mod Results
 pub mod Rowed
 pub mod Ruled
-pub mod Saids
-pub mod SaidsMade
+pub mod NamedSteps
+pub mod NamedStepsMade
 pub mod Sectioned
 pub mod Spelled
-pub mod Tellings
+pub mod TotalsOfReplies

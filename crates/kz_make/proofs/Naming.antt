@@ -4,10 +4,10 @@ use Rattle.std.specs.Fmt.{decimal}
 use Rattle.std.specs.List.{list_all, list_any}
 use Rattle.std.proofs.lemmas.Fmt.{decimal_digit, decimal_injective, length-decimal-le}
 use Rattle.kz_model.specs.declared.bundle.TypeDecl.{TypeDecl}
-use Rattle.kz_model.specs.Tokens.{is, is_name, is_small, is_digit, is_name_byte}
-use Rattle.kz_model.specs.Spelling.{IsName}
-use Rattle.kz_model.specs.Stages.{has}
-use Rattle.kz_model.specs.Made.{name_text, type_text, type_made, types_made, fields_of_type}
+use Rattle.kz_model.specs.Grammar.Tokens.{is, is_name, is_small, is_digit, is_name_byte}
+use Rattle.kz_model.specs.Grammar.Spelling.{IsName}
+use Rattle.kz_model.specs.Grammar.Stages.{has}
+use Rattle.kz_model.specs.Text.Made.{name_text, type_text, type_made, types_made, fields_of_type}
 use Rattle.kz_bundle.proofs.Choices.{and_true, all_append, all_weaker, is_within, is_same, is_itself}
 use Rattle.kz_bundle.proofs.NumberTexts.{decimal_digits}
 

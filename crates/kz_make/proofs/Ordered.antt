@@ -5,8 +5,8 @@ use Rattle.kz_model.specs.declared.bundle.OrderLine.{OrderLine}
 use Rattle.kz_model.specs.declared.bundle.OrderLine.TheVariants as turn
 use Rattle.kz_model.specs.declared.grammar.Cause.TheVariants as cause
 use Rattle.kz_model.specs.declared.grammar.Refusal.{Refusal}
-use Rattle.kz_model.specs.Form.{Section, Draft}
-use Rattle.kz_model.specs.Stages.{else_fault, fault_if, steps_in, left_in, none_left, order_from, order_fault, rounds_of, rounds_fault}
+use Rattle.kz_model.specs.Grammar.Form.{Section, Draft}
+use Rattle.kz_model.specs.Grammar.Stages.{else_fault, fault_if, steps_in, left_in, none_left, order_from, order_fault, rounds_of, rounds_fault}
 use Rattle.kz_make.proofs.Sectioned.{HasRounds}
 
 -- so many for each CPU

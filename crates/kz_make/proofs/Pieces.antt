@@ -4,12 +4,12 @@ use Rattle.std.specs.Fmt.{decimal}
 use Rattle.std.proofs.lemmas.List.{map-append}
 use Rattle.std.proofs.lemmas.Fmt.{decimal_digit}
 use Rattle.rand_pcg.specs.Lcg.{Lcg}
-use Rattle.kz_model.specs.Words.{word_of, rest_of}
+use Rattle.kz_model.specs.Zone.Words.{word_of, rest_of}
 use Rattle.kz_model.specs.declared.bundle.Seed.TheVariants.{Number}
-use Rattle.kz_model.specs.Form.{Line, Machine, SeedOf, Cpus, Frames, Pages, Budget, Magazine, Depot, Declares, Opens, Does, Break, Orders, Turns, Ends}
-use Rattle.kz_model.specs.Steps.{Alloc}
-use Rattle.kz_model.specs.Made.{types_count, made_text, names_count, drawn_count, later_count, drawn, name_text, type_of_made, names_allocated, first_round, rounds_drawn, later_lines, section_made, sections_made, order_made, said_made, field_made, fields_made, type_text, type_made, types_made, after_types, fields_of_type, steps_drawn, header_made, turns_made, later_turns}
-use Rattle.kz_model.specs.Spelling.{line_text, numbered, said_text, field_text, fields_text, more_fields_text}
+use Rattle.kz_model.specs.Grammar.Form.{Line, Machine, SeedOf, Cpus, Frames, Pages, Budget, Magazine, Depot, Declares, Opens, Does, Break, Orders, Turns, Ends}
+use Rattle.kz_model.specs.Grammar.Steps.{Alloc}
+use Rattle.kz_model.specs.Text.Made.{types_count, made_text, names_count, drawn_count, later_count, drawn, name_text, type_of_made, names_allocated, first_round, rounds_drawn, later_lines, section_made, sections_made, order_made, named_step_made, field_made, fields_made, type_text, type_made, types_made, after_types, fields_of_type, steps_drawn, header_made, turns_made, later_turns}
+use Rattle.kz_model.specs.Grammar.Spelling.{line_text, numbered, named_step_text, field_text, fields_text, more_fields_text}
 use Rattle.kz_bundle.specs.Printing.{lines_text}
 use Rattle.kz_bundle.proofs.Printed.{then_lines, then_line, no_lines}
 use Rattle.kz_make.specs.Writing.{words_at, IsWritten}
@@ -70,8 +70,8 @@ later_turns_more times i h = ap later_turns (one_less times i h)
 
 -- a drawn step with its end
 pub step_written : (number j cpu u v w : ℕ) (words w1 w2 w3 : Option Lcg) (out now : List ℕ) → words ≡ words_at number j → u ≡ word_of words → w1 ≡ rest_of words → v ≡ word_of w1 → w2 ≡ rest_of w1 → w ≡ word_of w2 → w3 ≡ rest_of w2 →
-    now ≡ out ++ (said_text (said_made cpu u v w) ++ codes "\n") →
-    IsWritten number (j + 3) w3 out (said_text (said_made cpu (drawn number j) (drawn number (j + 1)) (drawn number (j + 2))) ++ codes "\n") now
+    now ≡ out ++ (named_step_text (named_step_made cpu u v w) ++ codes "\n") →
+    IsWritten number (j + 3) w3 out (named_step_text (named_step_made cpu (drawn number j) (drawn number (j + 1)) (drawn number (j + 2))) ++ codes "\n") now
 step_written number j cpu u v w words w1 w2 w3 out now at e f e1 f1 e2 f2 is =
     let first = is_drawn number j u words w1 at e f in
     let second = is_drawn number (j + 1) v w1 w2 first.rest_is e1 f1 in
@@ -80,9 +80,9 @@ step_written number j cpu u v w words w1 w2 w3 out now at e f e1 f1 e2 f2 is =
     let three : j + 1 + 1 + 1 ≡ j + 3 = omega arith in
     record {
       text = is
-          ∙ ap (λ u. out ++ (said_text (said_made cpu u v w) ++ codes "\n")) first.word_is
-          ∙ ap (λ v. out ++ (said_text (said_made cpu (drawn number j) v w) ++ codes "\n")) second.word_is
-          ∙ ap (λ w. out ++ (said_text (said_made cpu (drawn number j) (drawn number (j + 1)) w) ++ codes "\n")) (third.word_is ∙ ap (drawn number) two);
+          ∙ ap (λ u. out ++ (named_step_text (named_step_made cpu u v w) ++ codes "\n")) first.word_is
+          ∙ ap (λ v. out ++ (named_step_text (named_step_made cpu (drawn number j) v w) ++ codes "\n")) second.word_is
+          ∙ ap (λ w. out ++ (named_step_text (named_step_made cpu (drawn number j) (drawn number (j + 1)) w) ++ codes "\n")) (third.word_is ∙ ap (drawn number) two);
       words = third.rest_is ∙ ap (words_at number) three;
     }
 
@@ -166,12 +166,12 @@ section_written number j cpu w1 w2 out s1 s2 s3 s4 s5 now e1 e2 e3 e4 first late
 -- one step more
 pub steps_text : (number cpu at times i : ℕ) → i < times →
     lines_text (map Does (steps_drawn number cpu at (times - i)))
-    ≡ (said_text (said_made cpu (drawn number at) (drawn number (at + 1)) (drawn number (at + 2))) ++ codes "\n") ++ lines_text (map Does (steps_drawn number cpu (at + 3) (times - (i + 1))))
+    ≡ (named_step_text (named_step_made cpu (drawn number at) (drawn number (at + 1)) (drawn number (at + 2))) ++ codes "\n") ++ lines_text (map Does (steps_drawn number cpu (at + 3) (times - (i + 1))))
 steps_text number cpu at times i h = ap (λ n. lines_text (map Does (steps_drawn number cpu at n))) (one_less times i h)
 
 pub allocated_text : (cpu times i : ℕ) → i < times →
     lines_text (map Does (names_allocated cpu i (times - i)))
-    ≡ (said_text (Alloc (name_text cpu i) (type_of_made cpu i)) ++ codes "\n") ++ lines_text (map Does (names_allocated cpu (i + 1) (times - (i + 1))))
+    ≡ (named_step_text (Alloc (name_text cpu i) (type_of_made cpu i)) ++ codes "\n") ++ lines_text (map Does (names_allocated cpu (i + 1) (times - (i + 1))))
 allocated_text cpu times i h = ap (λ n. lines_text (map Does (names_allocated cpu i n))) (one_less times i h)
 
 pub sections_text : (number at times i : ℕ) → i < times →

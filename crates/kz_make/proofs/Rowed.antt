@@ -5,13 +5,13 @@ use Rattle.std.proofs.lemmas.List.Elements.{All-nil, All-cons, All-head, All-tai
 use Rattle.kz_model.specs.declared.grammar.Cause.TheVariants as cause
 use Rattle.kz_model.specs.declared.grammar.Counted.TheVariants as counted
 use Rattle.kz_model.specs.declared.grammar.Refusal.{Refusal}
-use Rattle.kz_model.specs.Tokens.{is}
-use Rattle.kz_model.specs.Steps.{Said}
-use Rattle.kz_model.specs.Stages.{else_fault, fault_if, Row, has, row_of, is_there, binds, type_in, name_in, gives_to, with_bound, with_row, CpuLine, rows_of, bound_fault, name_fault, names_from}
-use Rattle.kz_model.specs.Made.{name_text, type_text, type_of_made}
+use Rattle.kz_model.specs.Grammar.Tokens.{is}
+use Rattle.kz_model.specs.Grammar.Steps.{NamedStep}
+use Rattle.kz_model.specs.Grammar.Stages.{else_fault, fault_if, Row, has, row_of, is_there, binds, type_in, name_in, gives_to, with_bound, with_row, CpuLine, rows_of, bound_fault, name_fault, names_from}
+use Rattle.kz_model.specs.Text.Made.{name_text, type_text, type_of_made}
 use Rattle.kz_bundle.proofs.Choices.{is_same, is_itself}
 use Rattle.kz_make.proofs.Naming.{names_same}
-use Rattle.kz_make.proofs.SaidsMade.{IsBoundBy, IsTypeOfMade, IsNameOfMade, IsStepOf}
+use Rattle.kz_make.proofs.NamedStepsMade.{IsBoundBy, IsTypeOfMade, IsNameOfMade, IsStepOf}
 
 -- ---- a name stays among the rows
 

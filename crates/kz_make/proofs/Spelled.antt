@@ -10,11 +10,11 @@ use Rattle.kz_model.specs.declared.bundle.OrderLine.TheVariants as turn
 use Rattle.kz_model.specs.declared.grammar.Place.TheVariants as place
 use Rattle.kz_model.specs.declared.grammar.Header.{Header}
 use Rattle.kz_model.specs.declared.grammar.Refusal.{Refusal}
-use Rattle.kz_model.specs.Steps.{Said}
-use Rattle.kz_model.specs.Form.{Line, Declares, Opens, Does, Break, Orders, Turns, Ends, SaidLine, Section, Draft, nothing_said, new_section}
-use Rattle.kz_model.specs.Spelling.{line_text, IsSaid, IsDeclared, Leads, Spells, turn_of}
-use Rattle.kz_model.specs.Stages.{else_fault, CpuLine, of_cpu, lines_from, step_lines, rows_of, row_of, is_there, has, type_names, types_fault, names_fault, rounds_fault, later_fault, bundle_of, order_from, left_in}
-use Rattle.kz_model.specs.Made.{types_count, names_count, drawn_count, later_count, name_text, type_text, types_made, after_types, first_round, rounds_drawn, later_lines, section_made, sections_made, turns_made, later_turns, order_made, header_made, made_lines, made_text, MadeSpells}
+use Rattle.kz_model.specs.Grammar.Steps.{NamedStep}
+use Rattle.kz_model.specs.Grammar.Form.{Line, Declares, Opens, Does, Break, Orders, Turns, Ends, StepLine, Section, Draft, empty_draft, new_section}
+use Rattle.kz_model.specs.Grammar.Spelling.{line_text, IsNamedStep, IsDeclared, Leads, Spells, turn_of}
+use Rattle.kz_model.specs.Grammar.Stages.{else_fault, CpuLine, of_cpu, lines_from, step_lines, rows_of, row_of, is_there, has, type_names, types_fault, names_fault, rounds_fault, later_fault, bundle_of, order_from, left_in}
+use Rattle.kz_model.specs.Text.Made.{types_count, names_count, drawn_count, later_count, name_text, type_text, types_made, after_types, first_round, rounds_drawn, later_lines, section_made, sections_made, turns_made, later_turns, order_made, header_made, made_lines, made_text, MadeSpells}
 use Rattle.kz_bundle.proofs.Choices.{equal}
 use Rattle.kz_make.proofs.Counts.{types_are, names_are, drawn_are}
 use Rattle.kz_make.proofs.Counts.{later_are as later_counted}
@@ -23,14 +23,14 @@ use Rattle.kz_make.proofs.Leading.{leads-append, in_types, in_steps, in_order, l
 use Rattle.kz_make.proofs.Ordered.{round_turns, later_round_turns, no_rounds_fault, no_order_fault}
 use Rattle.kz_make.proofs.Rowed.{IsLineOfMade, IsBoundIn, IsRowOfMade, bound_left, bound_right, is_known, no_names_fault}
 use Rattle.kz_make.proofs.Ruled.{length-rounds_drawn, steps_of_cpu, ruled, has_rounds, lines_are, lines_count, name_bound}
-use Rattle.kz_make.proofs.SaidsMade.{IsStepOf, first_are, later_are}
+use Rattle.kz_make.proofs.NamedStepsMade.{IsStepOf, first_are, later_are}
 
 -- ---- what the lines lead to
 
 abbrev pub made_header : ℕ → Header
 made_header number = record { machine = 1; seed = Number number; cpus = 4; frames = 2048; pages = 1024; budget = 24; magazine = 8; depot = 4 }
 
-header_leads : (number : ℕ) → number < 2 ^ 64 → Leads nothing_said 1 (header_made number) (in_types (made_header number) [])
+header_leads : (number : ℕ) → number < 2 ^ 64 → Leads empty_draft 1 (header_made number) (in_types (made_header number) [])
 header_leads number small = (
   (refl, refl),
   (
@@ -97,12 +97,12 @@ header_leads number small = (
 )
 
 -- a section's steps may stand
-first_said : (number cpu j : ℕ) → cpu < 4 → All (IsSaid 4) (first_round number cpu j)
-first_said number cpu j few = All-weaker (IsStepOf cpu) (IsSaid 4) (λ said is. is.said) (first_round number cpu j) (first_are cpu few number j)
+first_said : (number cpu j : ℕ) → cpu < 4 → All (IsNamedStep 4) (first_round number cpu j)
+first_said number cpu j few = All-weaker (IsStepOf cpu) (IsNamedStep 4) (λ said is. is.said) (first_round number cpu j) (first_are cpu few number j)
 
-later_said : (number cpu j more : ℕ) → cpu < 4 → All (All (IsSaid 4)) (rounds_drawn number cpu j more)
+later_said : (number cpu j more : ℕ) → cpu < 4 → All (All (IsNamedStep 4)) (rounds_drawn number cpu j more)
 later_said number cpu j more few =
-    All-weaker (All (IsStepOf cpu)) (All (IsSaid 4)) (λ round all. All-weaker (IsStepOf cpu) (IsSaid 4) (λ said is. is.said) round all) (rounds_drawn number cpu j more) (later_are cpu few number j more)
+    All-weaker (All (IsStepOf cpu)) (All (IsNamedStep 4)) (λ round all. All-weaker (IsStepOf cpu) (IsNamedStep 4) (λ said is. is.said) round all) (rounds_drawn number cpu j more) (later_are cpu few number j more)
 
 few_later : (number cpu j : ℕ) → length (rounds_drawn number cpu j later_count) ≤ 999
 few_later number cpu j = omega (arith, length-rounds_drawn number cpu j later_count, later_counted)
@@ -311,7 +311,7 @@ none_of_three a b c e f g = rw (e, f, g) refl
 -- what a made text says
 record MadeSays (number : ℕ) : Type 0 where
   said : Draft
-  leads : Leads nothing_said 1 (made_lines number) said
+  leads : Leads empty_draft 1 (made_lines number) said
   is_ended : said.place ≡ place.Ended
   faultless : later_fault said ≡ None
 
@@ -335,13 +335,13 @@ made_said number small =
     let at = 1 + length sections in
     let said = ended number types a b c d at in
     let few_types : 0 + types_count ≤ 1024 = omega (arith, types_are) in
-    let to_types = leads-append nothing_said 1 header (map Declares types) (in_types h []) (in_types h types) (header_leads number small)
+    let to_types = leads-append empty_draft 1 header (map Declares types) (in_types h []) (in_types h types) (header_leads number small)
     (leads_types h [] types (1 + length header) (omega (arith, length-types_made number 0 0 types_count, types_are)) (types_declared number 0 0 types_count few_types)) in
-    let to_sections = leads-append nothing_said 1 declared (sections_made number 0 start 4) (in_types h types) (in_steps h types (a ∷ b ∷ c ∷ []) d 81000) to_types (sections_lead number start la types) in
-    let to_order = leads-append nothing_said 1 sections order_made (in_steps h types (a ∷ b ∷ c ∷ []) d 81000) (in_order h types (a ∷ b ∷ c ∷ []) d 81000 at all_turns) to_sections (order_leads number at 81000 types a b c d) in
+    let to_sections = leads-append empty_draft 1 declared (sections_made number 0 start 4) (in_types h types) (in_steps h types (a ∷ b ∷ c ∷ []) d 81000) to_types (sections_lead number start la types) in
+    let to_order = leads-append empty_draft 1 sections order_made (in_steps h types (a ∷ b ∷ c ∷ []) d 81000) (in_order h types (a ∷ b ∷ c ∷ []) d 81000 at all_turns) to_sections (order_leads number at 81000 types a b c d) in
     record {
       said = said;
-      leads = leads-append nothing_said 1 ordered (Ends ∷ []) (in_order h types (a ∷ b ∷ c ∷ []) d 81000 at all_turns) said to_order (tt, (said, (refl, refl)));
+      leads = leads-append empty_draft 1 ordered (Ends ∷ []) (in_order h types (a ∷ b ∷ c ∷ []) d 81000 at all_turns) said to_order (tt, (said, (refl, refl)));
       is_ended = refl;
       faultless = none_of_three (types_fault said) (names_fault said) (rounds_fault said) (no_types_fault number 0 types_count 24 (omega (arith, types_are)) (omega arith))
           (no_fault_of_names number start (start + 60000) (start + 60000 + 60000) (start + 60000 + 60000 + 60000) la lb lc ld types at (λ t few. has_type number 0 0 types_count t (omega arith) (omega (arith, types_are))))

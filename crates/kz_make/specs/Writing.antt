@@ -2,7 +2,7 @@
 use Rattle.std.specs.Prelude.{◌≡◌, ℕ, List, ◌++◌, Option}
 use Rattle.rand_pcg.specs.Lcg.{Lcg}
 use Rattle.kz_model.specs.declared.bundle.Seed.TheVariants.{Number}
-use Rattle.kz_model.specs.Words.{words_after}
+use Rattle.kz_model.specs.Zone.Words.{words_after}
 
 -- the number's stream after its first j words
 abbrev pub words_at : ℕ → ℕ → Option Lcg

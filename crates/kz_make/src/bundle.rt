@@ -1,14 +1,14 @@
 //! The bundle of a number.
 ghost use Rattle.std.specs.Prelude.{◌≡◌, ◌≤◌, ◌++◌, length, codes, IfOk, OnOk};
 ghost use Rattle.kz_bundle.specs.Printing.{lines_text};
-ghost use Rattle.kz_model.specs.Made.{header_made, made_text};
-ghost use Rattle.kz_model.specs.Spelling.{numbered};
+ghost use Rattle.kz_model.specs.Text.Made.{header_made, made_text};
+ghost use Rattle.kz_model.specs.Grammar.Spelling.{numbered};
 
 use crate::order::write_order;
 use crate::sections::write_sections;
 use crate::types::write_types;
-use crate::write::write_number;
 use kz_model::{Seed, Words};
+use kz_text::push_decimal;
 use std::alloc::{AllocError, Global};
 
 /// The stream whose words make a bundle.
@@ -23,7 +23,7 @@ fn write_setting(out: &mut Vec<u8>, word: &[u8], number: u64) -> Result<(), Allo
 {
     out.extend_from_slice(word)?;
     out.extend_from_slice(b" ")?;
-    write_number(out, number)?;
+    push_decimal(out, number)?;
     out.extend_from_slice(b"\n")
 }
 

@@ -1,11 +1,11 @@
 //! The fields of a type.
 ghost use Rattle.std.specs.Prelude.{◌≡◌, ℕ, ◌+◌, ◌*◌, ◌%◌, ◌<◌, ◌≤◌, ◌++◌, codes, OnOk};
-ghost use Rattle.kz_model.specs.Made.{drawn, kind_by, field_made, fields_made};
-ghost use Rattle.kz_model.specs.Spelling.{kind_text, field_text, fields_text};
+ghost use Rattle.kz_model.specs.Text.Made.{drawn, kind_by, field_made, fields_made};
+ghost use Rattle.kz_model.specs.Grammar.Spelling.{kind_text, field_text, fields_text};
 ghost use Rattle.kz_make.specs.Writing.{words_at, IsWritten};
 
-use crate::write::write_number;
 use kz_model::Words;
+use kz_text::push_decimal;
 use std::alloc::AllocError;
 
 /// A field's kind by its number.
@@ -21,7 +21,7 @@ fn write_kind(out: &mut Vec<u8>, word: u32, number: u32) -> Result<(), AllocErro
         4 => out.extend_from_slice(b"u8"),
         _ => {
             out.extend_from_slice(b"bytes ")?;
-            write_number(out, u64::from(1 + word % 200))
+            push_decimal(out, u64::from(1 + word % 200))
         }
     }
 }
@@ -32,13 +32,14 @@ fn write_field(out: &mut Vec<u8>, i: u32, b: u32, c: u32) -> Result<(), AllocErr
 {
     write_kind(out, c, b % 6)?;
     out.extend_from_slice(b" f")?;
-    write_number(out, u64::from(i))
+    push_decimal(out, u64::from(i))
 }
 
 /// Field i, by the next two words.
 fn write_next(out: &mut Vec<u8>, words: &mut Words, i: u32) -> Result<(), AllocError>
     ensures { (number j : ℕ) → words.old ≡ words_at number j
-        → OnOk result (IsWritten number (j + 2) words.new out.old.items (field_text (field_made i (drawn number j) (drawn number (j + 1)))) out.new.items) }
+        → OnOk result (IsWritten number (j + 2) words.new out.old.items
+        (field_text (field_made i (drawn number j) (drawn number (j + 1)))) out.new.items) }
 {
     let b = words.next();
     let c = words.next();
@@ -53,7 +54,8 @@ pub(crate) fn write_fields(
 ) -> Result<(), AllocError>
     requires { 1 ≤ count }
     ensures { (number j : ℕ) → words.old ≡ words_at number j
-        → OnOk result (IsWritten number (j + 2 * count) words.new out.old.items (fields_text (fields_made number j 0 count)) out.new.items) }
+        → OnOk result (IsWritten number (j + 2 * count) words.new out.old.items
+        (fields_text (fields_made number j 0 count)) out.new.items) }
 {
     out.extend_from_slice(b" ")?;
     write_next(out, words, 0)?;

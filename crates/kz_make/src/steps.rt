@@ -1,11 +1,11 @@
 //! The step lines.
-ghost use Rattle.std.specs.Prelude.{◌≡◌, ◌/◌, ◌%◌, ◌<◌, false, ◌++◌, codes, OnOk};
-ghost use Rattle.std.specs.Fmt.{digit_glyph};
-ghost use Rattle.kz_model.specs.Made.{name_text, type_of_made, four_bytes, said_by, said_made};
-ghost use Rattle.kz_model.specs.Spelling.{said_text, spaced};
-ghost use Rattle.kz_model.specs.Text.{hex_bytes, hex_of_byte};
+ghost use Rattle.std.specs.Prelude.{◌≡◌, ◌%◌, ◌<◌, ◌++◌, codes, OnOk};
+ghost use Rattle.kz_model.specs.Text.Made.{name_text, type_of_made, four_bytes, named_step_by, named_step_made};
+ghost use Rattle.kz_model.specs.Grammar.Spelling.{named_step_text, spaced};
+ghost use Rattle.kz_model.specs.Text.Lines.{hex_bytes};
 
-use crate::write::{CPUS, NAMES, write_name, write_number, write_type_of};
+use crate::write::{CPUS, NAMES, write_name, write_type_of};
+use kz_text::{push_decimal, push_hex};
 use std::alloc::AllocError;
 
 /// A step on a name.
@@ -47,49 +47,32 @@ pub(crate) fn write_on_both(
 ) -> Result<(), AllocError>
     requires cpu { cpu < 4 }
     requires k { k < 250 }
-    ensures { OnOk result (out.new.items ≡ out.old.items ++ spaced letter.now (spaced (name_text cpu k) (type_of_made cpu k))) }
+    ensures { OnOk result (out.new.items
+        ≡ out.old.items ++ spaced letter.now (spaced (name_text cpu k) (type_of_made cpu k))) }
 {
     write_on_name(out, letter, cpu, k)?;
     out.extend_from_slice(b" ")?;
     write_type_of(out, cpu, k)
 }
 
-fn hex_digit(value: u32) -> u8
-    requires { value < 16 }
-    ensures { result ≡ digit_glyph false value }
-{
-    if value < 10 {
-        b'0' + value as u8
-    } else {
-        b'a' + (value as u8 - 10)
-    }
-}
-
-/// A byte as two digits.
-fn write_byte(out: &mut Vec<u8>, byte: u32) -> Result<(), AllocError>
-    requires { byte < 256 }
-    ensures { OnOk result (out.new.items ≡ out.old.items ++ hex_of_byte byte) }
-{
-    out.push(hex_digit(byte / 16))?;
-    out.push(hex_digit(byte % 16))?;
-    Ok(())
-}
-
 /// A word as eight digits.
 fn write_word(out: &mut Vec<u8>, word: u32) -> Result<(), AllocError>
     ensures { OnOk result (out.new.items ≡ out.old.items ++ hex_bytes (four_bytes word)) }
 {
-    write_byte(out, word / 0x100_0000 % 256)?;
-    write_byte(out, word / 0x1_0000 % 256)?;
-    write_byte(out, word / 0x100 % 256)?;
-    write_byte(out, word % 256)
+    let bytes = [
+        (word / 0x100_0000 % 256) as u8,
+        (word / 0x1_0000 % 256) as u8,
+        (word / 0x100 % 256) as u8,
+        (word % 256) as u8,
+    ];
+    push_hex(out, &bytes)
 }
 
 /// The step of this number on the CPU's name k.
 fn write_said(out: &mut Vec<u8>, cpu: u32, k: u32, word: u32, number: u32) -> Result<(), AllocError>
     requires cpu { cpu < 4 }
     requires k { k < 250 }
-    ensures { OnOk result (out.new.items ≡ out.old.items ++ said_text (said_by cpu k word number)) }
+    ensures { OnOk result (out.new.items ≡ out.old.items ++ named_step_text (named_step_by cpu k word number)) }
 {
     match number {
         0..=5 => write_on_both(out, b"a", cpu, k),
@@ -107,7 +90,7 @@ fn write_said(out: &mut Vec<u8>, cpu: u32, k: u32, word: u32, number: u32) -> Re
         13 => {
             write_on_name(out, b"g", cpu, k)?;
             out.extend_from_slice(b" ")?;
-            write_number(out, u64::from((cpu + 1) % CPUS))
+            push_decimal(out, u64::from((cpu + 1) % CPUS))
         }
         14 => write_on_name(out, b"t", (cpu + 3) % CPUS, k),
         _ => match word % 32 {
@@ -127,7 +110,7 @@ pub(crate) fn write_step(
     w: u32,
 ) -> Result<(), AllocError>
     requires { cpu < 4 }
-    ensures { OnOk result (out.new.items ≡ out.old.items ++ (said_text (said_made cpu u v w) ++ codes "\n")) }
+    ensures { OnOk result (out.new.items ≡ out.old.items ++ (named_step_text (named_step_made cpu u v w) ++ codes "\n")) }
 {
     write_said(out, cpu, u % NAMES, w, v % 16)?;
     out.extend_from_slice(b"\n")

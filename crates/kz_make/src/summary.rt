@@ -2,12 +2,12 @@
 ghost use Rattle.std.specs.Prelude.{◌≡◌, ℕ, ◌+◌, ◌^◌, ◌<◌, [], ◌∷◌, ◌++◌, List, length, decimal, codes, IfOk, OnOk};
 ghost use Rattle.std.specs.List.{flat_map};
 ghost use Rattle.kz_model.specs.declared.step.Reply.{Reply as TheReply};
-ghost use Rattle.kz_model.specs.Summary.{is_block, is_refusal, pages_trimmed, summary_text as text_of_summary};
-ghost use Rattle.kz_make.specs.Telling.{replies_in, IsWithin, AreTotals};
+ghost use Rattle.kz_model.specs.Text.Summary.{is_block, is_refusal, pages_trimmed, summary_text as text_of_summary};
+ghost use Rattle.kz_make.specs.Totals.{replies_in, IsWithin, AreTotals};
 
 use crate::totals::Totals;
-use crate::write::write_number;
 use kz_model::{Record, Replies};
+use kz_text::push_decimal;
 use std::alloc::{AllocError, Global};
 
 fn add_replies(totals: &mut Totals, replies: &Replies)
@@ -15,7 +15,8 @@ fn add_replies(totals: &mut Totals, replies: &Replies)
     requires within { IsWithin totals.old }
     ensures steps { totals.new.steps ≡ totals.old.steps + length replies.now }
     ensures within { IsWithin totals.new }
-    ensures more { (before : List TheReply) → AreTotals totals.old before → AreTotals totals.new (before ++ replies.now) }
+    ensures more { (before : List TheReply) → AreTotals totals.old before →
+        AreTotals totals.new (before ++ replies.now) }
 {
     for at in 0..replies.len() {
         totals.add(&replies.reply(at));
@@ -38,11 +39,12 @@ fn write_line(out: &mut Vec<u8>, word: &[u8], number: u64) -> Result<(), AllocEr
     ensures { OnOk result (out.new.items ≡ out.old.items ++ ((word.now ++ decimal number) ++ codes "\n")) }
 {
     out.extend_from_slice(word)?;
-    write_number(out, number)?;
+    push_decimal(out, number)?;
     out.extend_from_slice(b"\n")
 }
 
-/// The summary of a run with these replies: the number, the bundle's length, and how many steps, blocks, refusals of the supply and trimmed pages there were.
+/// The summary of a run with these replies: the number, the bundle's length, and how many steps, blocks, refusals of
+/// the supply and trimmed pages there were.
 pub fn summary_text(
     alloc: Global,
     number: u64,

@@ -1,11 +1,12 @@
 //! What replies come to.
 ghost use Rattle.std.specs.Prelude.{◌≡◌, ◌+◌, ◌^◌, ◌<◌, [], ◌∷◌, ◌++◌, List, if◌then◌else◌};
 ghost use Rattle.kz_model.specs.declared.step.Reply.{Reply as TheReply};
-ghost use Rattle.kz_model.specs.Summary.{is_block as shows_block, is_refusal as shows_refusal, pages_trimmed};
+ghost use Rattle.kz_model.specs.Text.Summary.{is_block as shows_block, is_refusal as shows_refusal, pages_trimmed};
 
 use kz_model::Reply;
 
-/// How many replies there were, how many of them were blocks and refusals of the supply, and the pages that were trimmed.
+/// How many replies there were, how many of them were blocks and refusals of the supply, and the pages that were
+/// trimmed.
 #[derive(Drop)]
 pub(crate) struct Totals {
     pub(crate) steps: u64,
@@ -48,7 +49,7 @@ fn one_if(test: bool) -> u64
 }
 
 impl Totals {
-    ghost use Rattle.kz_make.specs.Telling.{IsWithin, AreTotals};
+    ghost use Rattle.kz_make.specs.Totals.{IsWithin, AreTotals};
 
     pub(crate) fn none() -> Totals
         ensures within { IsWithin result }
@@ -67,7 +68,8 @@ impl Totals {
         requires within { IsWithin self.old }
         ensures steps { self.new.steps ≡ self.old.steps + 1 }
         ensures within { IsWithin self.new }
-        ensures more { (replies : List TheReply) → AreTotals self.old replies → AreTotals self.new (replies ++ reply.now ∷ []) }
+        ensures more { (replies : List TheReply) → AreTotals self.old replies →
+            AreTotals self.new (replies ++ reply.now ∷ []) }
     {
         self.steps += 1;
         self.blocks += one_if(is_block(reply));

@@ -1,8 +1,8 @@
 //! Numbers and names behind a text.
 ghost use Rattle.std.specs.Prelude.{◌≡◌, ◌+◌, ◌*◌, ◌%◌, ◌<◌, ◌++◌, codes, decimal, OnOk};
-ghost use Rattle.kz_model.specs.Made.{type_text, name_text, type_of_made};
+ghost use Rattle.kz_model.specs.Text.Made.{type_text, name_text, type_of_made};
 
-use itoa::Buffer;
+use kz_text::push_decimal;
 use std::alloc::AllocError;
 
 /// The CPUs of a made bundle.
@@ -20,19 +20,12 @@ pub(crate) const DRAWN: u32 = 5000;
 /// The rounds after the first.
 pub(crate) const LATER: u32 = 3;
 
-pub(crate) fn write_number(out: &mut Vec<u8>, number: u64) -> Result<(), AllocError>
-    ensures { OnOk result (out.new.items ≡ out.old.items ++ decimal number) }
-{
-    let mut digits = Buffer::new();
-    out.extend_from_slice(digits.format(number).as_bytes())
-}
-
 /// The name of a type by its number.
 pub(crate) fn write_type(out: &mut Vec<u8>, of: u32) -> Result<(), AllocError>
     ensures { OnOk result (out.new.items ≡ out.old.items ++ type_text of) }
 {
     out.extend_from_slice(b"t")?;
-    write_number(out, u64::from(of))
+    push_decimal(out, u64::from(of))
 }
 
 /// A CPU's name k.
@@ -40,9 +33,9 @@ pub(crate) fn write_name(out: &mut Vec<u8>, cpu: u32, k: u32) -> Result<(), Allo
     ensures { OnOk result (out.new.items ≡ out.old.items ++ name_text cpu k) }
 {
     out.extend_from_slice(b"n")?;
-    write_number(out, u64::from(cpu))?;
+    push_decimal(out, u64::from(cpu))?;
     out.extend_from_slice(b"_")?;
-    write_number(out, u64::from(k))
+    push_decimal(out, u64::from(k))
 }
 
 /// The type of a CPU's name k.

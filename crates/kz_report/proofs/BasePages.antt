@@ -8,7 +8,7 @@ use Rattle.std.proofs.lemmas.List.Elements.{filter-append, filter_map-append, Al
 use Rattle.kz_model.specs.declared.supply.SupplyEntry.{SupplyEntry}
 use Rattle.kz_model.specs.declared.supply.Answer.{Answer}
 use Rattle.kz_model.specs.declared.supply.Answer.TheVariants.{Base}
-use Rattle.kz_model.specs.Report.{bases, page_of}
+use Rattle.kz_model.specs.Run.Journal.{bases, page_of}
 use Rattle.kz_report.specs.Lines.{with_entry}
 
 -- ---- ranges

@@ -5,7 +5,7 @@ pub mod Lookups
 pub mod PlanText
 pub mod Reportable
 pub mod Results
-pub mod Said
+pub mod AnsweredLines
 pub mod Tally
 pub mod VisitLines
 pub mod Writable

@@ -3,15 +3,15 @@ use Rattle.std.proofs.Common.{◌≡◌, ℕ, zero, suc, ◌+◌, ◌-◌, ◌<�
 use Rattle.std.proofs.Math.Seq.{drop-cons}
 use Rattle.std.proofs.lemmas.List.{append-nil, drop-drop, drop_all}
 use Rattle.std.proofs.lemmas.Grind.{flat_map-append}
-use Rattle.kz_model.specs.Replies.{no_reply}
+use Rattle.kz_model.specs.Store.Replies.{no_reply}
 use Rattle.kz_model.specs.declared.bundle.Bundle.{Bundle}
 use Rattle.kz_model.specs.declared.bundle.TraceStep.{TraceStep}
 use Rattle.kz_model.specs.declared.record.Plan.{Plan}
 use Rattle.kz_model.specs.declared.step.Reply.{Reply}
-use Rattle.kz_model.specs.Journal.{addressed}
-use Rattle.kz_model.specs.Report.{Answered}
-use Rattle.kz_model.specs.Text.{text_of_lines}
-use Rattle.kz_model.specs.Traces.{no_step}
+use Rattle.kz_model.specs.Run.Journal.{addressed}
+use Rattle.kz_model.specs.Text.Report.{Answered}
+use Rattle.kz_model.specs.Text.Lines.{text_of_lines}
+use Rattle.kz_model.specs.Run.Journal.{no_step}
 use Rattle.kz_report.specs.Lines.{said, answered_line, count_in_front, break_lines, rounds_left}
 
 pub text-append : (xs ys : List (List ℕ)) → text_of_lines (xs ++ ys) ≡ text_of_lines xs ++ text_of_lines ys

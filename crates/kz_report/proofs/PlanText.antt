@@ -8,9 +8,9 @@ use Rattle.kz_model.specs.declared.bundle.Bundle.{Bundle}
 use Rattle.kz_model.specs.declared.record.Layout.{Layout}
 use Rattle.kz_model.specs.declared.record.Plan.{Plan}
 use Rattle.kz_model.specs.declared.record.ZoneRow.{ZoneRow}
-use Rattle.kz_model.specs.Journal.{zone_row}
-use Rattle.kz_model.specs.Report.{type_line, zone_line, zone_name, submap_name, no_type, no_layout}
-use Rattle.kz_model.specs.Text.{text_of_lines}
+use Rattle.kz_model.specs.Run.Journal.{zone_row}
+use Rattle.kz_model.specs.Text.Report.{type_line, zone_line, zone_name, submap_name, no_type, no_layout}
+use Rattle.kz_model.specs.Text.Lines.{text_of_lines}
 use Rattle.kz_model.proofs.TraceRounds.{range_push}
 use Rattle.kz_report.specs.Lines.{type_line_of}
 

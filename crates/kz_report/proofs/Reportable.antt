@@ -11,18 +11,19 @@ use Rattle.kz_model.specs.declared.record.Visit.{Visit}
 use Rattle.kz_model.specs.declared.record.ZoneRow.{ZoneRow}
 use Rattle.kz_model.specs.declared.step.Reply.{Reply}
 use Rattle.kz_model.specs.declared.supply.SupplyEntry.{SupplyEntry}
-use Rattle.kz_model.specs.Journal.{zone_row, trace_of, steps_among, steps_of, carried}
-use Rattle.kz_model.specs.Planned.{IsFitRow}
-use Rattle.kz_model.specs.Recorded.{cpu_answered, cpu_replies}
-use Rattle.kz_model.specs.Report.{cpu_lines, rounds_lines, bases, chunk_line, zone_chunks, zone_visits_lines}
-use Rattle.kz_model.specs.Run.{Carries}
-use Rattle.kz_model.specs.Text.{text_of_lines}
-use Rattle.kz_model.specs.Turns.{is_of_round}
-use Rattle.kz_model.specs.Valid.{IsValid}
-use Rattle.kz_model.specs.Zone.{Chunk}
+use Rattle.kz_model.specs.Run.Journal.{zone_row, trace_of, steps_among, steps_of, carried}
+use Rattle.kz_model.specs.Types.Planned.{IsFitRow}
+use Rattle.kz_model.specs.Run.Recorded.{cpu_answered, cpu_replies}
+use Rattle.kz_model.specs.Text.Report.{cpu_lines, rounds_lines, chunk_line, zone_chunks, zone_visits_lines}
+use Rattle.kz_model.specs.Run.Journal.{bases}
+use Rattle.kz_model.specs.Run.Runs.{Carries}
+use Rattle.kz_model.specs.Text.Lines.{text_of_lines}
+use Rattle.kz_model.specs.Grammar.Turns.{is_of_round}
+use Rattle.kz_model.specs.Grammar.Valid.{IsValid}
+use Rattle.kz_model.specs.Zone.State.{Chunk}
 use Rattle.kz_model.proofs.TraceRounds.{trace_by_rounds, steps_within}
 use Rattle.kz_report.specs.Lines.{IsReportable, said, rounds_left, mapped_line, visits_after}
-use Rattle.kz_report.proofs.Said.{AreBases, length-of_rounds, rounds_same, said_rounds}
+use Rattle.kz_report.proofs.AnsweredLines.{AreBases, length-of_rounds, rounds_same, said_rounds}
 use Rattle.kz_report.proofs.VisitLines.{RiseWithin, rises, visits_same}
 
 -- ---- the rows

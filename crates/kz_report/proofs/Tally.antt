@@ -6,7 +6,7 @@ use Rattle.std.proofs.Math.Seq.{drop-cons}
 use Rattle.std.proofs.lemmas.List.{get_or-set_same, get_or-set_other, length-set, get_or_past, get_or-replicate, length-replicate}
 use Rattle.std.proofs.lemmas.List.Elements.{All-set, All-get_or, All-weaker}
 use Rattle.std.proofs.lemmas.List.Sums.{sum_by-cons, sum_by-append}
-use Rattle.kz_model.specs.Replies.{no_reply}
+use Rattle.kz_model.specs.Store.Replies.{no_reply}
 use Rattle.kz_model.specs.declared.bundle.Bundle.{Bundle}
 use Rattle.kz_model.specs.declared.bundle.Act.{Act}
 use Rattle.kz_model.specs.declared.bundle.Act.TheVariants as act
@@ -14,72 +14,12 @@ use Rattle.kz_model.specs.declared.bundle.TraceStep.{TraceStep}
 use Rattle.kz_model.specs.declared.record.Plan.{Plan}
 use Rattle.kz_model.specs.declared.step.Reply.{Reply}
 use Rattle.kz_model.specs.declared.step.Reply.TheVariants as reply
-use Rattle.kz_model.specs.Journal.{addressed, trace_of}
-use Rattle.kz_model.specs.Report.{Answered, is_alloc_of, is_free_of, use_line, no_type}
-use Rattle.kz_model.specs.Traces.{no_step}
+use Rattle.kz_model.specs.Run.Journal.{addressed, trace_of}
+use Rattle.kz_model.specs.Text.Report.{Answered, type_given, type_freed, is_alloc_of, is_free_of, use_line, no_type}
+use Rattle.kz_model.specs.Run.Journal.{no_step}
 use Rattle.kz_report.specs.declared.uses.Uses.{Uses}
 use Rattle.kz_report.specs.Lines.{said}
-use Rattle.kz_report.specs.Uses.{no_uses, type_given, type_freed, one_given, one_freed, changed_at, counted, counted_all, counted_cpus, AreFew, use_text}
-
--- ---- which lines count
-
-is_given : (b : Bundle) (of zone : ℕ) (a : Act) (r : Reply) → is_alloc_of b of (record { act = a; zone = zone; reply = r }) ≡ option_map_or (λ t. t == of) (type_given b a r) false
-is_given b of zone (act.Alloc name to) (reply.Block block) = refl
-is_given b of zone (act.Alloc name to) reply.Done = refl
-is_given b of zone (act.Alloc name to) reply.NoName = refl
-is_given b of zone (act.Alloc name to) reply.NameBusy = refl
-is_given b of zone (act.Alloc name to) (reply.WrongZone asked owner) = refl
-is_given b of zone (act.Alloc name to) reply.NotHeld = refl
-is_given b of zone (act.Alloc name to) reply.NotGiven = refl
-is_given b of zone (act.Alloc name to) reply.OutOfBlock = refl
-is_given b of zone (act.Alloc name to) reply.Unmapped = refl
-is_given b of zone (act.Alloc name to) (reply.Bytes bytes) = refl
-is_given b of zone (act.Alloc name to) (reply.Trimmed pages) = refl
-is_given b of zone (act.Alloc name to) (reply.NoSpace left) = refl
-is_given b of zone (act.Alloc name to) (reply.NoFrames free) = refl
-is_given b of zone (act.AllocZero name to) (reply.Block block) = refl
-is_given b of zone (act.AllocZero name to) reply.Done = refl
-is_given b of zone (act.AllocZero name to) reply.NoName = refl
-is_given b of zone (act.AllocZero name to) reply.NameBusy = refl
-is_given b of zone (act.AllocZero name to) (reply.WrongZone asked owner) = refl
-is_given b of zone (act.AllocZero name to) reply.NotHeld = refl
-is_given b of zone (act.AllocZero name to) reply.NotGiven = refl
-is_given b of zone (act.AllocZero name to) reply.OutOfBlock = refl
-is_given b of zone (act.AllocZero name to) reply.Unmapped = refl
-is_given b of zone (act.AllocZero name to) (reply.Bytes bytes) = refl
-is_given b of zone (act.AllocZero name to) (reply.Trimmed pages) = refl
-is_given b of zone (act.AllocZero name to) (reply.NoSpace left) = refl
-is_given b of zone (act.AllocZero name to) (reply.NoFrames free) = refl
-is_given b of zone (act.Free name to) r = refl
-is_given b of zone (act.Give name to) r = refl
-is_given b of zone (act.Take name) r = refl
-is_given b of zone (act.Read name off len) r = refl
-is_given b of zone (act.Write name off bytes) r = refl
-is_given b of zone (act.Flush to) r = refl
-is_given b of zone (act.Trim to) r = refl
-
-is_freed : (b : Bundle) (of zone : ℕ) (a : Act) (r : Reply) → is_free_of b of (record { act = a; zone = zone; reply = r }) ≡ option_map_or (λ t. t == of) (type_freed b a r) false
-is_freed b of zone (act.Free name to) (reply.Block block) = refl
-is_freed b of zone (act.Free name to) reply.Done = refl
-is_freed b of zone (act.Free name to) reply.NoName = refl
-is_freed b of zone (act.Free name to) reply.NameBusy = refl
-is_freed b of zone (act.Free name to) (reply.WrongZone asked owner) = refl
-is_freed b of zone (act.Free name to) reply.NotHeld = refl
-is_freed b of zone (act.Free name to) reply.NotGiven = refl
-is_freed b of zone (act.Free name to) reply.OutOfBlock = refl
-is_freed b of zone (act.Free name to) reply.Unmapped = refl
-is_freed b of zone (act.Free name to) (reply.Bytes bytes) = refl
-is_freed b of zone (act.Free name to) (reply.Trimmed pages) = refl
-is_freed b of zone (act.Free name to) (reply.NoSpace left) = refl
-is_freed b of zone (act.Free name to) (reply.NoFrames free) = refl
-is_freed b of zone (act.Alloc name to) r = refl
-is_freed b of zone (act.AllocZero name to) r = refl
-is_freed b of zone (act.Give name to) r = refl
-is_freed b of zone (act.Take name) r = refl
-is_freed b of zone (act.Read name off len) r = refl
-is_freed b of zone (act.Write name off bytes) r = refl
-is_freed b of zone (act.Flush to) r = refl
-is_freed b of zone (act.Trim to) r = refl
+use Rattle.kz_report.specs.Uses.{no_uses, one_given, one_freed, changed_at, counted, counted_all, counted_cpus, AreFew, use_text}
 
 -- ---- one line
 
@@ -127,8 +67,6 @@ counted-get b a r zone uses of lt =
     changed-get one_freed (type_freed b a r) (changed_at one_given (type_given b a r) uses) of (omega (arith, length-changed one_given (type_given b a r) uses))
     ∙ ap (λ (u : Uses). if f then one_freed u else u) (changed-get one_given (type_given b a r) uses of lt)
     ∙ by_tests here g f
-    ∙ ap (λ (t : Bool). plus here (if t then 1 else 0) (if f then 1 else 0)) (sym (is_given b of zone a r))
-    ∙ ap (λ (t : Bool). plus here (if is_alloc_of b of (record { act = a; zone = zone; reply = r }) then 1 else 0) (if t then 1 else 0)) (sym (is_freed b of zone a r))
 
 -- ---- all lines
 

@@ -5,8 +5,8 @@ use Rattle.std.specs.List.Sorted.{IsNonDecreasing}
 use Rattle.std.proofs.lemmas.Grind.{flat_map-append}
 use Rattle.kz_model.specs.declared.bundle.Bundle.{Bundle}
 use Rattle.kz_model.specs.declared.record.Visit.{Visit}
-use Rattle.kz_model.specs.Report.{zone_visits_lines}
-use Rattle.kz_model.specs.Text.{visit_text, visits_line, text_of_lines}
+use Rattle.kz_model.specs.Text.Report.{zone_visits_lines}
+use Rattle.kz_model.specs.Text.Lines.{visit_text, visits_line, text_of_lines}
 use Rattle.kz_report.specs.Lines.{visits_begin, visits_after}
 
 -- the rounds of these visits do not fall, and lie in this range

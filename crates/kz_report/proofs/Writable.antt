@@ -11,12 +11,12 @@ use Rattle.kz_model.specs.declared.layout.LayoutFault.{LayoutFault}
 use Rattle.kz_model.specs.declared.layout.LayoutCause.{LayoutCause}
 use Rattle.kz_model.specs.declared.record.Layout.{Layout}
 use Rattle.kz_model.specs.declared.record.Plan.{Plan}
-use Rattle.kz_model.specs.Cover.{Covered, glyph, granule, union_of, letters_of, letter_of, layout_of}
-use Rattle.kz_model.specs.Layouts.{Types, names_of, found_at, type_cover, types_from, with_earlier, then_do, all_layouts, layouts_of}
-use Rattle.kz_model.specs.Plan.{zone_among, deals_of, general_count, data_classes}
-use Rattle.kz_model.specs.Planned.{IsPlanned}
-use Rattle.kz_model.specs.Tokens.{is_name, is_name_byte, is_small, is_digit}
-use Rattle.kz_model.specs.Valid.{ok_or_none, layouts_in}
+use Rattle.kz_model.specs.Types.Cover.{Covered, glyph, granule, union_of, letters_of, letter_of, layout_of}
+use Rattle.kz_model.specs.Types.Layouts.{Types, names_of, found_at, type_cover, types_from, with_earlier, then_do, all_layouts, layouts_of}
+use Rattle.kz_model.specs.Types.Plan.{zone_among, deals_of, general_count, data_classes}
+use Rattle.kz_model.specs.Types.Planned.{IsPlanned}
+use Rattle.kz_model.specs.Grammar.Tokens.{is_name, is_name_byte, is_small, is_digit}
+use Rattle.kz_model.specs.Grammar.Valid.{ok_or_none, layouts_in}
 use Rattle.kz_report.specs.Lines.{AreText}
 
 -- ---- names

@@ -13,13 +13,14 @@ use Rattle.kz_model.specs.declared.record.ZoneParams.{ZoneParams}
 use Rattle.kz_model.specs.declared.record.ZoneRow.{ZoneRow}
 use Rattle.kz_model.specs.declared.step.Reply.{Reply}
 use Rattle.kz_model.specs.declared.supply.SupplyEntry.{SupplyEntry}
-use Rattle.kz_model.specs.Supply.{address}
-use Rattle.kz_model.specs.Text.{hex, reply_line, visit_text}
-use Rattle.kz_model.specs.Journal.{zone_row, zone_of_type, addressed}
-use Rattle.kz_model.specs.Planned.{IsPlanned, IsFitPlan}
-use Rattle.kz_model.specs.Recorded.{IsAnswered}
-use Rattle.kz_model.specs.Report.{Answered, type_line, zone_line, base_of, page_of, no_type, no_layout}
-use Rattle.kz_model.specs.Run.{IsRun}
+use Rattle.kz_model.specs.Run.Supply.{address}
+use Rattle.kz_model.specs.Text.Lines.{hex, reply_line, visit_text}
+use Rattle.kz_model.specs.Run.Journal.{zone_row, zone_of_type, addressed}
+use Rattle.kz_model.specs.Types.Planned.{IsPlanned, IsFitPlan}
+use Rattle.kz_model.specs.Run.Recorded.{IsAnswered}
+use Rattle.kz_model.specs.Text.Report.{Answered, type_line, zone_line, base_of, no_type, no_layout}
+use Rattle.kz_model.specs.Run.Journal.{page_of}
+use Rattle.kz_model.specs.Run.Runs.{IsRun}
 
 -- ---- a plan
 
@@ -27,7 +28,8 @@ use Rattle.kz_model.specs.Run.{IsRun}
 abbrev pub type_line_of : Bundle → Plan → List Layout → ℕ → List ℕ
 type_line_of b plan layouts of =
     let zone = zone_of_type plan of in
-    type_line (slice_index_or b.types of no_type) (slice_index_or layouts of no_layout) (zone_row plan zone).shape.element zone
+    type_line (slice_index_or b.types of no_type) (slice_index_or layouts of no_layout)
+    (zone_row plan zone).shape.element zone
 
 abbrev pub numbered_zone_line : ℕ × ZoneRow → List ℕ
 numbered_zone_line numbered = zone_line numbered.0 numbered.1
@@ -52,21 +54,36 @@ pub record IsReportable (b : Bundle) (plan : Plan) (made : Record) : Type 0 wher
 
 -- what the line of a reply has of a zone
 abbrev pub params_with : ZoneRow → ZoneParams
-params_with row = record { zone = 0; element = row.shape.element; count = row.shape.count; pages = row.shape.pages; cpus = 0; magazine = 0; depot = 0; seed = Plain; submap = row.submap }
+params_with row = record {
+  zone = 0;
+  element = row.shape.element;
+  count = row.shape.count;
+  pages =
+      row.shape.pages;
+  cpus = 0;
+  magazine = 0;
+  depot = 0;
+  seed = Plain;
+  submap = row.submap;
+}
 
 -- these lines, each with the reply to it
 abbrev pub said : Bundle → Plan → List TraceStep → List Reply → List Answered
 said b plan [] replies = []
 said b plan (line ∷ lines) [] = []
-said b plan (line ∷ lines) (reply ∷ replies) = record { act = line.act; zone = (addressed b plan line.act).0; reply = reply } ∷ said b plan lines replies
+said b plan (line ∷ lines) (reply ∷ replies) =
+    record { act = line.act; zone = (addressed b plan line.act).0; reply = reply } ∷ said b plan lines replies
 
 -- the line of a reply, with the first page of each chunk by zone
 abbrev pub answered_line : Plan → List (List ℕ) → Answered → List ℕ
-answered_line plan pages line = reply_line (params_with (zone_row plan line.zone)) (base_of (slice_index_or pages line.zone []) line.reply) line.reply
+answered_line plan pages line =
+    reply_line (params_with (zone_row plan line.zone)) (base_of (slice_index_or pages line.zone []) line.reply)
+    line.reply
 
 -- the first page of each chunk by zone, after one entry more of the supply's log
 abbrev pub with_entry : List (List ℕ) → SupplyEntry → List (List ℕ)
-with_entry pages entry = option_map_or (λ page. slice_set pages entry.zone (slice_index_or pages entry.zone [] ++ page ∷ [])) (page_of entry.answer) pages
+with_entry pages entry = option_map_or
+    (λ page. slice_set pages entry.zone (slice_index_or pages entry.zone [] ++ page ∷ [])) (page_of entry.answer) pages
 
 -- how many lines in front are of this round
 abbrev pub count_in_front : ℕ → List TraceStep → ℕ
@@ -111,4 +128,5 @@ end_of_open (Some begun) = codes "\n"
 -- these visits, after a line of this round that is open, and the end of the last line
 abbrev pub visits_after : ℕ → Option ℕ → List Visit → List ℕ
 visits_after zone begun [] = end_of_open begun
-visits_after zone begun (v ∷ visits) = before_visit zone begun v.round ++ (visit_text v ++ visits_after zone (Some v.round) visits)
+visits_after zone begun (v ∷ visits) = before_visit zone begun v.round
+    ++ (visit_text v ++ visits_after zone (Some v.round) visits)

@@ -3,25 +3,13 @@ use Rattle.std.specs.Prelude.{ℕ, zero, suc, ◌+◌, ◌-◌, ◌≤◌, List,
 use Rattle.kz_model.specs.declared.bundle.Bundle.{Bundle}
 use Rattle.kz_model.specs.declared.bundle.TraceStep.{TraceStep}
 use Rattle.kz_model.specs.declared.bundle.Act.{Act}
-use Rattle.kz_model.specs.declared.bundle.Act.TheVariants as act
 use Rattle.kz_model.specs.declared.step.Reply.{Reply}
-use Rattle.kz_model.specs.declared.step.Reply.TheVariants as reply
-use Rattle.kz_model.specs.Journal.{type_of_name, trace_of}
+use Rattle.kz_model.specs.Run.Journal.{trace_of}
+use Rattle.kz_model.specs.Text.Report.{type_given, type_freed}
 use Rattle.kz_report.specs.declared.uses.Uses.{Uses}
 
 abbrev pub no_uses : Uses
 no_uses = record { allocs = 0; frees = 0 }
-
--- the type of the block that the line was given
-abbrev pub type_given : Bundle → Act → Reply → Option ℕ
-type_given b (act.Alloc name of) (reply.Block block) = Some (type_of_name b name)
-type_given b (act.AllocZero name of) (reply.Block block) = Some (type_of_name b name)
-type_given b act reply = None
-
--- the type of the block that the line freed
-abbrev pub type_freed : Bundle → Act → Reply → Option ℕ
-type_freed b (act.Free name of) reply.Done = Some (type_of_name b name)
-type_freed b act reply = None
 
 abbrev pub one_given : Uses → Uses
 one_given uses = record { allocs = uses.allocs + 1; frees = uses.frees }
@@ -36,7 +24,8 @@ changed_at change (Some of) uses = slice_set uses of (change (slice_index_or use
 
 -- the numbers by type after one line more
 abbrev pub counted : Bundle → Act → Reply → List Uses → List Uses
-counted b act reply uses = changed_at one_freed (type_freed b act reply) (changed_at one_given (type_given b act reply) uses)
+counted b act reply uses =
+    changed_at one_freed (type_freed b act reply) (changed_at one_given (type_given b act reply) uses)
 
 -- the numbers by type after these lines
 abbrev pub counted_all : Bundle → List TraceStep → List Reply → List Uses → List Uses
@@ -47,7 +36,8 @@ counted_all b (line ∷ lines) (reply ∷ replies) uses = counted_all b lines re
 -- the numbers by type after the lines of so many CPUs from this one on
 abbrev pub counted_cpus : Bundle → List (List Reply) → ℕ → ℕ → List Uses → List Uses
 counted_cpus b replies cpu zero uses = uses
-counted_cpus b replies cpu (suc more) uses = counted_cpus b replies (cpu + 1) more (counted_all b (trace_of b cpu) (slice_index_or replies cpu []) uses)
+counted_cpus b replies cpu (suc more) uses =
+    counted_cpus b replies (cpu + 1) more (counted_all b (trace_of b cpu) (slice_index_or replies cpu []) uses)
 
 -- no number is above this one
 abbrev pub AreFew : ℕ → List Uses → Type 0

@@ -1,7 +1,7 @@
 //! The zone of a line, and the address of a block.
 ghost use Rattle.std.specs.Prelude.{◌≡◌, ◌<◌, ◌≤◌, Some, slice_index};
-ghost use Rattle.kz_model.specs.Journal.{zone_row as row_of_zone, zone_of_type as zone_at, type_of_name as type_at, addressed};
-ghost use Rattle.kz_model.specs.Supply.{address};
+ghost use Rattle.kz_model.specs.Run.Journal.{zone_row as row_of_zone, zone_of_type as zone_at, type_of_name as type_at, addressed};
+ghost use Rattle.kz_model.specs.Run.Supply.{address};
 
 use kz_model::{Act, Bundle, Geometry, Plan, ZoneRow};
 

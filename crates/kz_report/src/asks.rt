@@ -1,7 +1,7 @@
 //! The lines of the supply's log.
 ghost use Rattle.std.specs.Prelude.{◌≡◌, ◌++◌, map, codes, decimal, OnOk};
 ghost use Rattle.kz_model.specs.declared.supply.Ask.TheVariants as ask;
-ghost use Rattle.kz_model.specs.Text.{ask_line, ask_text, text_of_lines};
+ghost use Rattle.kz_model.specs.Text.Lines.{ask_line, ask_text, text_of_lines};
 
 use crate::numbers::push_number;
 use kz_model::{Answer, Ask, SupplyEntry};

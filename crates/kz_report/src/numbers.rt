@@ -1,13 +1,10 @@
 //! Numbers as they are written.
 ghost use Rattle.std.specs.Prelude.{◌≡◌, ◌+◌, ◌<◌, ◌≤◌, ◌++◌, false, length, drop, decimal, OnOk};
-ghost use Rattle.std.specs.Fmt.{digits, digit_glyph};
-ghost use Rattle.kz_model.specs.Text.{hex, hex_bytes, hex_of_byte};
+ghost use Rattle.std.specs.Fmt.{digits};
+ghost use Rattle.kz_model.specs.Text.Lines.{hex};
 
-use itoa::Buffer;
+use kz_text::{glyph, push_decimal};
 use std::alloc::AllocError;
-
-/// The digits of a hexadecimal number.
-static GLYPHS: [u8; 16] = *b"0123456789abcdef";
 
 /// The most digits of a hexadecimal number.
 const HEX_DIGITS: usize = 16;
@@ -19,23 +16,6 @@ pub fn push_number(out: &mut Vec<u8>, words: &[u8], number: u64) -> Result<(), A
 {
     out.extend_from_slice(words)?;
     push_decimal(out, number)
-}
-
-fn push_decimal(out: &mut Vec<u8>, number: u64) -> Result<(), AllocError>
-    ensures { OnOk result (out.new.items ≡ out.old.items ++ decimal number) }
-{
-    if number < 10 {
-        return out.extend_from_slice(&[b'0' + number as u8]);
-    }
-    let mut digits = Buffer::new();
-    out.extend_from_slice(digits.format(number).as_bytes())
-}
-
-fn glyph(digit: u64) -> u8
-    requires { digit < 16 }
-    ensures { result ≡ digit_glyph false digit }
-{
-    GLYPHS[digit as usize]
 }
 
 /// Writes the hexadecimal digits so that they end at `end`, and returns where they start.
@@ -80,21 +60,4 @@ pub fn push_address(out: &mut Vec<u8>, address: u64) -> Result<(), AllocError>
     let start = hexadecimal_before(&mut digits, HEX_DIGITS, address);
     out.extend_from_slice(b"0x")?;
     out.extend_from_slice(&digits[start..])
-}
-
-/// Each byte as two digits.
-pub fn push_hex_bytes(out: &mut Vec<u8>, bytes: &[u8]) -> Result<(), AllocError>
-    ensures { OnOk result (out.new.items ≡ out.old.items ++ hex_bytes bytes.now) }
-{
-    for byte in bytes {
-        push_hex_byte(out, u64::from(*byte))?;
-    }
-    Ok(())
-}
-
-fn push_hex_byte(out: &mut Vec<u8>, byte: u64) -> Result<(), AllocError>
-    requires { byte < 256 }
-    ensures { OnOk result (out.new.items ≡ out.old.items ++ hex_of_byte byte) }
-{
-    out.extend_from_slice(&[glyph(byte / 16), glyph(byte % 16)])
 }

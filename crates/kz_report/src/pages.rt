@@ -1,8 +1,8 @@
 //! The first page of each chunk.
 ghost use Rattle.std.specs.Prelude.{◌≡◌, ◌++◌, [], length, map, take, IfOk, OnOk, slice_index, slice_index_or};
 ghost use Rattle.std.specs.List.{range_with_len, filter_map};
-ghost use Rattle.kz_model.specs.Journal.{answers_at};
-ghost use Rattle.kz_model.specs.Report.{bases};
+ghost use Rattle.kz_model.specs.Run.Journal.{answers_at};
+ghost use Rattle.kz_model.specs.Run.Journal.{bases};
 ghost use Rattle.kz_report.specs.Lines.{with_entry};
 
 use kz_model::{Answer, Bundle, Plan, SupplyEntry};

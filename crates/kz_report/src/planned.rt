@@ -3,9 +3,9 @@ ghost use Rattle.std.specs.Prelude.{◌≡◌, ◌++◌, [], codes, map, length,
 ghost use Rattle.std.specs.List.{enumerate_from, range_with_len};
 ghost use Rattle.std.specs.Str.{IsAscii};
 ghost use Rattle.std.specs.String.{string_bytes};
-ghost use Rattle.kz_model.specs.Journal.{zone_row};
-ghost use Rattle.kz_model.specs.Report.{type_line, zone_line, zone_name, submap_name, plan_lines};
-ghost use Rattle.kz_model.specs.Text.{text_of_lines};
+ghost use Rattle.kz_model.specs.Run.Journal.{zone_row};
+ghost use Rattle.kz_model.specs.Text.Report.{type_line, zone_line, zone_name, submap_name, plan_lines};
+ghost use Rattle.kz_model.specs.Text.Lines.{text_of_lines};
 ghost use Rattle.kz_report.specs.Lines.{numbered_zone_line, type_line_of, AreText};
 
 use crate::addresses::zone_row;
@@ -22,7 +22,8 @@ pub fn write_plan_lines(
     layouts: &[Layout],
 ) -> Result<(), AllocError>
     requires { AreText bundle.now plan.now layouts.now }
-    ensures { OnOk result (string_bytes out.new ≡ string_bytes out.old ++ text_of_lines (plan_lines bundle.now plan.now layouts.now)) }
+    ensures { OnOk result (string_bytes out.new ≡ string_bytes out.old
+        ++ text_of_lines (plan_lines bundle.now plan.now layouts.now)) }
 {
     write_types(out, bundle, plan, layouts)?;
     write_zones(out, plan.zones.as_slice())
@@ -35,7 +36,9 @@ fn write_types(
     layouts: &[Layout],
 ) -> Result<(), AllocError>
     requires { AreText bundle.now plan.now layouts.now }
-    ensures { OnOk result (string_bytes out.new ≡ string_bytes out.old ++ text_of_lines (map (type_line_of bundle.now plan.now layouts.now) (range_with_len 0 (length bundle.now.types)))) }
+    ensures { OnOk result (string_bytes out.new ≡ string_bytes out.old
+        ++ text_of_lines (map (type_line_of bundle.now plan.now layouts.now)
+        (range_with_len 0 (length bundle.now.types)))) }
 {
     let zones = plan.of_type.as_slice();
     for of in 0..bundle.types.len() {
@@ -79,7 +82,8 @@ pub fn from_ascii(bytes: &[u8]) -> &str
 }
 
 pub fn write_zones(out: &mut String, zones: &[ZoneRow]) -> Result<(), AllocError>
-    ensures { OnOk result (string_bytes out.new ≡ string_bytes out.old ++ text_of_lines (map numbered_zone_line (enumerate_from 0 zones.now))) }
+    ensures { OnOk result (string_bytes out.new ≡ string_bytes out.old
+        ++ text_of_lines (map numbered_zone_line (enumerate_from 0 zones.now))) }
 {
     for (zone, row) in zones.iter().enumerate() {
         write_zone(out, zone, *row)?;
@@ -93,7 +97,7 @@ struct ZoneName(ZoneRow);
 
 impl fmt::Display for ZoneName {
     ghost use Rattle.std.specs.Prelude.{Some};
-    ghost use Rattle.kz_model.specs.Report.{zone_name};
+    ghost use Rattle.kz_model.specs.Text.Report.{zone_name};
 
     ghost output = { λ name. Some (zone_name name.0) };
 
@@ -112,7 +116,7 @@ struct Submap(u32);
 
 impl fmt::Display for Submap {
     ghost use Rattle.std.specs.Prelude.{Some};
-    ghost use Rattle.kz_model.specs.Report.{submap_name};
+    ghost use Rattle.kz_model.specs.Text.Report.{submap_name};
 
     ghost output = { λ submap. Some (submap_name submap.0) };
 

@@ -1,17 +1,18 @@
 //! The line of a reply.
 ghost use Rattle.std.specs.Prelude.{◌≡◌, ◌<◌, ◌≤◌, ◌++◌, length, drop, slice_index_or, codes, decimal, All, OnOk};
 ghost use Rattle.kz_model.specs.declared.step.Reply.TheVariants as reply;
-ghost use Rattle.kz_model.specs.Journal.{addressed};
-ghost use Rattle.kz_model.specs.Planned.{IsFitRow};
-ghost use Rattle.kz_model.specs.Text.{hex, hex_bytes, reply_line};
-ghost use Rattle.kz_model.specs.Traces.{no_step};
+ghost use Rattle.kz_model.specs.Run.Journal.{addressed};
+ghost use Rattle.kz_model.specs.Types.Planned.{IsFitRow};
+ghost use Rattle.kz_model.specs.Text.Lines.{hex, hex_bytes, reply_line};
+ghost use Rattle.kz_model.specs.Run.Journal.{no_step};
 ghost use Rattle.kz_report.specs.Lines.{answered_line, params_with};
 
 use crate::addresses::{address_of, zone_of_act, zone_row};
-use crate::numbers::{bytes_before, hexadecimal_before, push_hex_bytes, push_number};
+use crate::numbers::{bytes_before, hexadecimal_before, push_number};
 use crate::pages::{Given, page_at};
 use itoa::write_digits;
 use kz_model::{Act, Block, Reply, Trace, ZoneRow};
+use kz_text::push_hex;
 use std::alloc::AllocError;
 
 /// The line of the reply to the step of this place. Only a block's line needs the step's zone.
@@ -104,6 +105,6 @@ fn write_bytes(out: &mut Vec<u8>, bytes: &[u8]) -> Result<(), AllocError>
     ensures { OnOk result (out.new.items ≡ out.old.items ++ ((codes "bytes " ++ hex_bytes bytes.now) ++ codes "\n")) }
 {
     out.extend_from_slice(b"bytes ")?;
-    push_hex_bytes(out, bytes)?;
+    push_hex(out, bytes)?;
     out.extend_from_slice(b"\n")
 }

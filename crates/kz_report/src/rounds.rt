@@ -1,9 +1,10 @@
 //! The replies to each CPU's lines, by rounds.
 ghost use Rattle.std.specs.Prelude.{◌≡◌, ◌+◌, ◌-◌, ◌≤◌, ◌∷◌, ◌++◌, length, drop, take, map, codes, decimal, All, OnOk};
 ghost use Rattle.std.specs.List.{flat_map, range_with_len};
-ghost use Rattle.kz_model.specs.Planned.{IsFitRow};
-ghost use Rattle.kz_model.specs.Report.{bases, cpu_lines};
-ghost use Rattle.kz_model.specs.Text.{text_of_lines};
+ghost use Rattle.kz_model.specs.Types.Planned.{IsFitRow};
+ghost use Rattle.kz_model.specs.Text.Report.{cpu_lines};
+ghost use Rattle.kz_model.specs.Run.Journal.{bases};
+ghost use Rattle.kz_model.specs.Text.Lines.{text_of_lines};
 ghost use Rattle.kz_report.specs.Lines.{IsReportable, answered_line, said, count_in_front, break_lines, rounds_left};
 
 use crate::numbers::push_number;
@@ -15,8 +16,12 @@ use std::alloc::AllocError;
 /// The sections of all CPUs.
 pub fn write_cpus(out: &mut Vec<u8>, given: &Given<'_>, made: &Record) -> Result<(), AllocError>
     requires record { IsReportable given.now.bundle.now given.now.plan.now made.now }
-    requires pages { given.now.pages.now ≡ map (λ zone. bases zone made.now.supply) (range_with_len 0 (length given.now.plan.now.zones)) }
-    ensures { OnOk result (out.new.items ≡ out.old.items ++ text_of_lines (flat_map (cpu_lines given.now.bundle.now given.now.plan.now made.now.visits made.now.supply) (range_with_len 0 given.now.bundle.now.cpus))) }
+    requires pages { given.now.pages.now
+        ≡ map (λ zone. bases zone made.now.supply) (range_with_len 0 (length given.now.plan.now.zones)) }
+    ensures { OnOk result (out.new.items
+        ≡ out.old.items ++ text_of_lines
+        (flat_map (cpu_lines given.now.bundle.now given.now.plan.now made.now.visits made.now.supply)
+        (range_with_len 0 given.now.bundle.now.cpus))) }
 {
     for cpu in 0..given.bundle.cpus {
         let trace = &given.bundle.traces.as_slice()[cpu as usize];
@@ -37,7 +42,10 @@ pub fn write_rounds(
 ) -> Result<(), AllocError>
     requires rows { All IsFitRow given.now.plan.now.zones }
     requires replies { length replies.now ≡ length trace.now }
-    ensures { OnOk result (out.new.items ≡ out.old.items ++ text_of_lines (rounds_left given.now.bundle.now given.now.plan.now given.now.pages.now 0 given.now.bundle.now.rounds trace.now replies.now)) }
+    ensures { OnOk result (out.new.items
+        ≡ out.old.items ++ text_of_lines
+        (rounds_left given.now.bundle.now given.now.plan.now given.now.pages.now 0 given.now.bundle.now.rounds
+        trace.now replies.now)) }
 {
     let mut from = 0;
     for round in 0..given.bundle.rounds {
@@ -87,7 +95,11 @@ fn write_lines(
     requires replies { length replies.now ≡ length trace.now }
     requires from { from ≤ end }
     requires end { end ≤ length trace.now }
-    ensures { OnOk result (out.new.items ≡ out.old.items ++ text_of_lines (map (answered_line given.now.plan.now given.now.pages.now) (said given.now.bundle.now given.now.plan.now (take (end - from) (drop from trace.now)) (drop from replies.now)))) }
+    ensures { OnOk result (out.new.items
+        ≡ out.old.items ++ text_of_lines
+        (map (answered_line given.now.plan.now given.now.pages.now)
+        (said given.now.bundle.now given.now.plan.now (take (end - from) (drop from trace.now))
+        (drop from replies.now)))) }
 {
     for at in from..end {
         write_reply(out, given, trace, at, replies.reply(at))?;

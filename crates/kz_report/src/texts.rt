@@ -1,11 +1,12 @@
 //! The texts.
 ghost use Rattle.std.specs.Prelude.{◌≡◌, ◌∷◌, codes, IfOk};
-ghost use Rattle.kz_model.specs.Planned.{IsPlanned};
-ghost use Rattle.kz_model.specs.Recorded.{IsAnswered};
-ghost use Rattle.kz_model.specs.Report.{plan_lines, report_text};
-ghost use Rattle.kz_model.specs.Run.{IsRun};
-ghost use Rattle.kz_model.specs.Text.{text_of_lines};
-ghost use Rattle.kz_model.specs.Valid.{planned_text, layouts_in};
+ghost use Rattle.kz_model.specs.Types.Planned.{IsPlanned};
+ghost use Rattle.kz_model.specs.Run.Recorded.{IsAnswered};
+ghost use Rattle.kz_model.specs.Text.Report.{plan_lines, report_text};
+ghost use Rattle.kz_model.specs.Run.Runs.{IsRun};
+ghost use Rattle.kz_model.specs.Text.Lines.{text_of_lines};
+ghost use Rattle.kz_model.specs.Grammar.Valid.{layouts_in};
+ghost use Rattle.kz_model.specs.Text.Report.{planned_text};
 ghost use Rattle.kz_report.specs.Lines.{AreText, IsReportable};
 
 use crate::asks::write_asks;
@@ -56,7 +57,8 @@ pub fn text(
     requires planned { IsPlanned bundle.now plan.now }
     requires run { IsRun bundle.now plan.now made.now.visits made.now.supply }
     requires answered { IsAnswered bundle.now plan.now made.now }
-    ensures { IfOk result (λ text. text.items ≡ report_text bundle.now plan.now (layouts_in bundle.now) made.now.visits made.now.supply) }
+    ensures { IfOk result (λ text. text.items
+        ≡ report_text bundle.now plan.now (layouts_in bundle.now) made.now.visits made.now.supply) }
 {
     let layouts = bundle_layouts(alloc, bundle)?;
     text_with(alloc, bundle, plan, layouts.as_slice(), made)
@@ -74,7 +76,8 @@ pub fn text_with(
     requires layouts { layouts.now ≡ layouts_in bundle.now }
     requires run { IsRun bundle.now plan.now made.now.visits made.now.supply }
     requires answered { IsAnswered bundle.now plan.now made.now }
-    ensures { IfOk result (λ text. text.items ≡ report_text bundle.now plan.now (layouts_in bundle.now) made.now.visits made.now.supply) }
+    ensures { IfOk result (λ text. text.items
+        ≡ report_text bundle.now plan.now (layouts_in bundle.now) made.now.visits made.now.supply) }
 {
     plans_are_fit();
     report_of(alloc, bundle, plan, layouts, made)
@@ -105,7 +108,8 @@ fn report_of(
 ) -> Result<Vec<u8>, AllocError>
     requires text { AreText bundle.now plan.now layouts.now }
     requires record { IsReportable bundle.now plan.now made.now }
-    ensures { IfOk result (λ text. text.items ≡ report_text bundle.now plan.now layouts.now made.now.visits made.now.supply) }
+    ensures { IfOk result (λ text. text.items
+        ≡ report_text bundle.now plan.now layouts.now made.now.visits made.now.supply) }
 {
     let pages = Pages::of_log(alloc, plan.zones.len(), made.supply.as_slice())?;
     let given = Given {

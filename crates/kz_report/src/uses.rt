@@ -1,11 +1,12 @@
 //! The lines of types: how many blocks were given and how many were freed.
 ghost use Rattle.std.specs.Prelude.{◌≡◌, ◌+◌, ◌<◌, ◌≤◌, ◌++◌, length, map, replicate, slice_index_or, codes, All, IfOk, OnOk, IsAscii};
 ghost use Rattle.std.specs.List.{range_with_len};
-ghost use Rattle.kz_model.specs.Report.{use_line, all_answered_lines};
-ghost use Rattle.kz_model.specs.Text.{text_of_lines};
-ghost use Rattle.kz_model.specs.Traces.{no_step};
+ghost use Rattle.kz_model.specs.Text.Report.{use_line, all_answered_lines};
+ghost use Rattle.kz_model.specs.Text.Lines.{text_of_lines};
+ghost use Rattle.kz_model.specs.Run.Journal.{no_step};
 ghost use Rattle.kz_report.specs.Lines.{IsReportable};
-ghost use Rattle.kz_report.specs.Uses.{no_uses as nothing, type_given as given_type, type_freed as freed_type, one_given, one_freed, changed_at, counted, counted_all, counted_cpus, AreFew, use_text};
+ghost use Rattle.kz_model.specs.Text.Report.{type_given as given_type, type_freed as freed_type};
+ghost use Rattle.kz_report.specs.Uses.{no_uses as nothing, one_given, one_freed, changed_at, counted, counted_all, counted_cpus, AreFew, use_text};
 
 use crate::addresses::type_of_name;
 use crate::numbers::push_number;
@@ -28,7 +29,10 @@ pub fn write_uses(
     made: &Record,
 ) -> Result<(), AllocError>
     requires { IsReportable bundle.now plan.now made.now }
-    ensures { OnOk result (out.new.items ≡ out.old.items ++ text_of_lines (map (use_line bundle.now (all_answered_lines bundle.now plan.now made.now.visits made.now.supply)) (range_with_len 0 (length bundle.now.types)))) }
+    ensures { OnOk result (out.new.items
+        ≡ out.old.items ++ text_of_lines
+        (map (use_line bundle.now (all_answered_lines bundle.now plan.now made.now.visits made.now.supply))
+        (range_with_len 0 (length bundle.now.types)))) }
 {
     let uses = uses_of(alloc, bundle, made)?;
     for of in 0..bundle.types.len() {
@@ -43,7 +47,8 @@ fn uses_of(alloc: Global, bundle: &Bundle, made: &Record) -> Result<Vec<Uses>, A
     requires replies { length made.now.replies ≡ bundle.now.cpus }
     requires cpus { bundle.now.cpus ≤ 16 }
     requires few { All (λ trace. length trace ≤ 1000000) bundle.now.traces }
-    ensures { IfOk result (λ uses. uses.items ≡ counted_cpus bundle.now made.now.replies 0 bundle.now.cpus (replicate (length bundle.now.types) nothing)) }
+    ensures { IfOk result (λ uses. uses.items
+        ≡ counted_cpus bundle.now made.now.replies 0 bundle.now.cpus (replicate (length bundle.now.types) nothing)) }
 {
     let mut uses = no_uses(alloc, bundle.types.len())?;
     for cpu in 0..bundle.cpus {

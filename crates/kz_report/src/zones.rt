@@ -1,8 +1,9 @@
 //! The lines of zones: their chunks and their visits.
 ghost use Rattle.std.specs.Prelude.{if◌then◌else◌, ◌≡◌, ◌<◌, ◌≤◌, ◌++◌, [], length, map, codes, decimal, All, None, OnOk, slice_index, slice_index_or};
 ghost use Rattle.std.specs.List.{enumerate_from, flat_map, range_with_len};
-ghost use Rattle.kz_model.specs.Report.{bases, chunk_line, zone_chunks, zone_visits_lines};
-ghost use Rattle.kz_model.specs.Text.{text_of_lines, visit_text};
+ghost use Rattle.kz_model.specs.Text.Report.{chunk_line, zone_chunks, zone_visits_lines};
+ghost use Rattle.kz_model.specs.Run.Journal.{bases};
+ghost use Rattle.kz_model.specs.Text.Lines.{text_of_lines, visit_text};
 ghost use Rattle.kz_report.specs.Lines.{IsReportable, mapped_line, before_visit, end_of_open, visits_after, visits_begin};
 
 use crate::addresses::{address_of, zone_row};
@@ -18,8 +19,13 @@ pub fn write_all_chunks(
     made: &Record,
 ) -> Result<(), AllocError>
     requires record { IsReportable given.now.bundle.now given.now.plan.now made.now }
-    requires pages { given.now.pages.now ≡ map (λ zone. bases zone made.now.supply) (range_with_len 0 (length given.now.plan.now.zones)) }
-    ensures { OnOk result (out.new.items ≡ out.old.items ++ text_of_lines (flat_map (λ zone. map (chunk_line given.now.bundle.now given.now.plan.now made.now.supply zone) (enumerate_from 0 (zone_chunks given.now.bundle.now given.now.plan.now made.now.visits made.now.supply zone))) (range_with_len 0 (length given.now.plan.now.zones)))) }
+    requires pages { given.now.pages.now
+        ≡ map (λ zone. bases zone made.now.supply) (range_with_len 0 (length given.now.plan.now.zones)) }
+    ensures { OnOk result (out.new.items
+        ≡ out.old.items ++ text_of_lines
+        (flat_map (λ zone. map (chunk_line given.now.bundle.now given.now.plan.now made.now.supply zone)
+        (enumerate_from 0 (zone_chunks given.now.bundle.now given.now.plan.now made.now.visits made.now.supply zone)))
+        (range_with_len 0 (length given.now.plan.now.zones)))) }
 {
     for zone in 0..given.plan.zones.len() as u32 {
         let row = zone_row(given.plan, zone);
@@ -39,7 +45,8 @@ pub fn write_chunks(
 ) -> Result<(), AllocError>
     requires submap { row.submap < 5 }
     requires element { row.shape.element ≤ 8192 }
-    ensures { OnOk result (out.new.items ≡ out.old.items ++ text_of_lines (map (mapped_line zone row pages.now) (enumerate_from 0 mapped.now))) }
+    ensures { OnOk result (out.new.items
+        ≡ out.old.items ++ text_of_lines (map (mapped_line zone row pages.now) (enumerate_from 0 mapped.now))) }
 {
     for (chunk, is_mapped) in mapped.iter().enumerate() {
         write_chunk(out, zone, row, pages, chunk, *is_mapped)?;
@@ -84,7 +91,10 @@ pub fn write_all_visits(
     made: &Record,
 ) -> Result<(), AllocError>
     requires { IsReportable bundle.now plan.now made.now }
-    ensures { OnOk result (out.new.items ≡ out.old.items ++ text_of_lines (flat_map (λ zone. zone_visits_lines bundle.now zone (slice_index_or made.now.visits zone [])) (range_with_len 0 (length plan.now.zones)))) }
+    ensures { OnOk result (out.new.items
+        ≡ out.old.items ++ text_of_lines
+        (flat_map (λ zone. zone_visits_lines bundle.now zone (slice_index_or made.now.visits zone []))
+        (range_with_len 0 (length plan.now.zones)))) }
 {
     for zone in 0..plan.zones.len() as u32 {
         write_visits(out, zone, made.visits.as_slice()[zone as usize].as_slice())?;

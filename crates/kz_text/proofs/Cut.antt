@@ -3,7 +3,8 @@ use Rattle.std.proofs.Common.{◌≡◌, ◌≢◌, ℕ, ◌+◌, List, [], ◌�
 use Rattle.std.specs.List.{All}
 use Rattle.std.proofs.lemmas.List.Splits.{slice_split_at, slice_split_none}
 use Rattle.std.proofs.lemmas.Grind.{common_steps}
-use Rattle.kz_text.specs.Lines.{Lines, TakesLine, lines_of}
+use Rattle.kz_model.specs.Grammar.Tokens.{lines_of}
+use Rattle.kz_text.specs.Lines.{Lines, TakesLine}
 
 -- a byte that is no end
 no_end : (byte : ℕ) → byte ≢ 10 → (byte == 10) ≡ false

@@ -8,7 +8,8 @@ use Rattle.std.proofs.lemmas.List.Elements.{All-cons}
 use Rattle.std.proofs.lemmas.List.Splits.{slice_split_at, slice_split_none, join_with_byte-slice_split}
 use Rattle.std.proofs.lemmas.Grind.{common_steps}
 use Rattle.kz_text.specs.declared.token.Token.{Token}
-use Rattle.kz_text.specs.Tokens.{words_of, text_of, tokens_from, SpaceAt}
+use Rattle.kz_model.specs.Grammar.Tokens.{tokens_of}
+use Rattle.kz_text.specs.Tokens.{text_of, tokens_from, SpaceAt}
 
 -- a byte that is no space
 no_space : (byte : ℕ) → byte ≢ 32 → (byte == 32) ≡ false
@@ -21,13 +22,13 @@ first_word line at h =
     ∙ ap (λ n. take at line ++ 32 ∷ drop n line) (sym (add-one at))
 
 -- the first word is taken off
-pub words_of-SpaceAt : (line : List ℕ) (at : ℕ) → SpaceAt line at → words_of line ≡ take at line ∷ words_of (drop (at + 1) line)
-words_of-SpaceAt line at h =
-    ap words_of (first_word line at h) ∙ slice_split_at (λ byte. byte == 32) (take at line) 32 (drop (at + 1) line) (λ i d k. no_space _ (h.none_before i d k)) refl
+pub tokens_of-SpaceAt : (line : List ℕ) (at : ℕ) → SpaceAt line at → tokens_of line ≡ take at line ∷ tokens_of (drop (at + 1) line)
+tokens_of-SpaceAt line at h =
+    ap tokens_of (first_word line at h) ∙ slice_split_at (λ byte. byte == 32) (take at line) 32 (drop (at + 1) line) (λ i d k. no_space _ (h.none_before i d k)) refl
 
 -- a line with no space is one word
-pub words_of-no_space : (line : List ℕ) → All (λ byte. byte ≢ 32) line → words_of line ≡ line ∷ []
-words_of-no_space line none = slice_split_none (λ byte. byte == 32) line (λ i d h. no_space _ (none i d h))
+pub tokens_of-no_space : (line : List ℕ) → All (λ byte. byte ≢ 32) line → tokens_of line ≡ line ∷ []
+tokens_of-no_space line none = slice_split_none (λ byte. byte == 32) line (λ i d h. no_space _ (none i d h))
 
 -- what a span holds where a word begins
 span_is : (line : List ℕ) (at : ℕ) (word more : List ℕ) → drop at line ≡ word ++ more → take (at + length word - at) (drop at line) ≡ word
@@ -51,8 +52,8 @@ texts_from line number at (word ∷ next ∷ words) h =
     ∙ ap (λ texts. word ∷ texts) (texts_from line number (at + length word + 1) (next ∷ words) (after_word line at word 32 more h))
 
 -- the tokens of a line hold its words
-pub texts_of_tokens : (line : List ℕ) (number : ℕ) → map (text_of line) (tokens_from number 0 (words_of line)) ≡ words_of line
-texts_of_tokens line number = texts_from line number 0 (words_of line) (sym (join_with_byte-slice_split 32 line))
+pub texts_of_tokens : (line : List ℕ) (number : ℕ) → map (text_of line) (tokens_from number 0 (tokens_of line)) ≡ tokens_of line
+texts_of_tokens line number = texts_from line number 0 (tokens_of line) (sym (join_with_byte-slice_split 32 line))
 
 abbrev pub IsWithin : List ℕ → Token → Type 0
 IsWithin line token = (token.from ≤ token.to) × (token.to ≤ length line)
@@ -68,8 +69,8 @@ within_from line number at (word ∷ next ∷ words) fits h =
     All-cons (IsWithin line) (record { line = number; from = at; to = at + length word }) (tokens_from number (at + length word + 1) (next ∷ words)) (omega arith, omega arith)
     (within_from line number (at + length word + 1) (next ∷ words) long (after_word line at word 32 more h))
 
-pub tokens_within : (line : List ℕ) (number : ℕ) → All (IsWithin line) (tokens_from number 0 (words_of line))
-tokens_within line number = within_from line number 0 (words_of line) (omega arith) (sym (join_with_byte-slice_split 32 line))
+pub tokens_within : (line : List ℕ) (number : ℕ) → All (IsWithin line) (tokens_from number 0 (tokens_of line))
+tokens_within line number = within_from line number 0 (tokens_of line) (omega arith) (sym (join_with_byte-slice_split 32 line))
 
 abbrev token_at : ℕ → ℕ → ℕ → Token
 token_at number from to = record { line = number; from = from; to = to }
@@ -83,18 +84,18 @@ first_token number from n at next token words others same after is left =
 
 -- after one token more, the tokens so far and those of what is left are still the line's
 pub more_tokens : (number from at next : ℕ) (items new whole : List Token) (token : Token) (rest left : List ℕ) → SpaceAt rest at → from + at + 1 ≡ next → left ≡ drop (at + 1) rest →
-    token ≡ token_at number from (from + at) → new ≡ items ++ token ∷ [] → items ++ tokens_from number from (words_of rest) ≡ whole → new ++ tokens_from number next (words_of left) ≡ whole
+    token ≡ token_at number from (from + at) → new ≡ items ++ token ∷ [] → items ++ tokens_from number from (tokens_of rest) ≡ whole → new ++ tokens_from number next (tokens_of left) ≡ whole
 more_tokens number from at next items new whole token rest left h after left_is token_is new_is so_far =
     let within = h.within in
     let same : length (take at rest) ≡ at = omega (arith, length-take at rest) in
-    let step : tokens_from number from (words_of rest) ≡ token ∷ tokens_from number next (words_of left)
-    = ap (λ ws. tokens_from number from ws) (words_of-SpaceAt rest at h)
-    ∙ first_token number from (length (take at rest)) at next token (words_of (drop (at + 1) rest)) (words_of left) same after token_is (ap words_of (sym left_is)) in
-    ap (λ ts. ts ++ tokens_from number next (words_of left)) new_is ∙ append_assoc items (token ∷ []) (tokens_from number next (words_of left)) ∙ ap (λ ts. items ++ ts) (sym step) ∙ so_far
+    let step : tokens_from number from (tokens_of rest) ≡ token ∷ tokens_from number next (tokens_of left)
+    = ap (λ ws. tokens_from number from ws) (tokens_of-SpaceAt rest at h)
+    ∙ first_token number from (length (take at rest)) at next token (tokens_of (drop (at + 1) rest)) (tokens_of left) same after token_is (ap tokens_of (sym left_is)) in
+    ap (λ ts. ts ++ tokens_from number next (tokens_of left)) new_is ∙ append_assoc items (token ∷ []) (tokens_from number next (tokens_of left)) ∙ ap (λ ts. items ++ ts) (sym step) ∙ so_far
 
 -- after the last token, the tokens are the line's
 pub last_token : (number from : ℕ) (items new whole : List Token) (token : Token) (rest : List ℕ) → All (λ byte. byte ≢ 32) rest → token ≡ token_at number from (from + length rest) →
-    new ≡ items ++ token ∷ [] → items ++ tokens_from number from (words_of rest) ≡ whole → new ≡ whole
+    new ≡ items ++ token ∷ [] → items ++ tokens_from number from (tokens_of rest) ≡ whole → new ≡ whole
 last_token number from items new whole token rest none token_is new_is so_far =
-    let one : tokens_from number from (words_of rest) ≡ token ∷ [] = ap (λ ws. tokens_from number from ws) (words_of-no_space rest none) ∙ ap (λ t. t ∷ []) (sym token_is) in
+    let one : tokens_from number from (tokens_of rest) ≡ token ∷ [] = ap (λ ws. tokens_from number from ws) (tokens_of-no_space rest none) ∙ ap (λ t. t ∷ []) (sym token_is) in
     new_is ∙ ap (λ ts. items ++ ts) (sym one) ∙ so_far

@@ -3,4 +3,3 @@ pub mod Memory
 pub mod Input
 pub mod Lines
 pub mod Tokens
-pub mod Numbers

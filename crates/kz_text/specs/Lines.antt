@@ -1,6 +1,6 @@
 -- Lines of a text, as contracts see them.
-use Rattle.std.specs.Prelude.{◌≡◌, ◌≢◌, ℕ, ◌+◌, ◌==◌, List, ◌∷◌, ◌++◌, ◌<◌, length, take, slice_index}
-use Rattle.std.specs.List.{All, slice_split}
+use Rattle.std.specs.Prelude.{◌≡◌, ◌≢◌, ℕ, ◌+◌, List, ◌∷◌, ◌++◌, ◌<◌, length, take, slice_index}
+use Rattle.std.specs.List.{All}
 
 -- what stands after the last line given, and that line's number
 pub record Lines : Type 0 where
@@ -19,7 +19,3 @@ pub record EndsAt (text : List ℕ) (at : ℕ) : Type 0 where
   pub within : at < length text
   pub end : slice_index text at ≡ 10
   pub none_before : All (λ byte. byte ≢ 10) (take at text)
-
--- a text cut at each byte 10: its lines, and last what stands after the last end
-abbrev pub lines_of : List ℕ → List (List ℕ)
-lines_of text = slice_split (λ byte. byte == 10) text

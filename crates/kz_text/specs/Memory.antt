@@ -2,7 +2,8 @@
 use Rattle.std.specs.Prelude.{ℕ, ◌+◌, ◌-◌, ◌^◌, ◌==◌, Bool, false, if◌then◌else◌, List, length, Option, None, Some}
 use Rattle.std.specs.List.{list_any}
 
--- a source: what is left, how many bytes a call gives at most, the numbers of the calls that fail, the next call's number, and the count of faults
+-- a source: what is left, how many bytes a call gives at most, the numbers of the calls that fail, the next call's
+-- number, and the count of faults
 pub record MemorySource : Type 0 where
   pub rest : List ℕ
   pub step : ℕ

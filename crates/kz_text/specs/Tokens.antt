@@ -1,17 +1,14 @@
 -- The tokens of a line, as contracts see them.
-use Rattle.std.specs.Prelude.{◌≡◌, ◌≢◌, ℕ, ◌+◌, ◌<◌, ◌==◌, List, [], ◌∷◌, length, take, slice_index, slice_range}
-use Rattle.std.specs.List.{All, slice_split}
+use Rattle.std.specs.Prelude.{◌≡◌, ◌≢◌, ℕ, ◌+◌, ◌<◌, List, [], ◌∷◌, length, take, slice_index, slice_range}
+use Rattle.std.specs.List.{All}
 use Rattle.kz_text.specs.declared.token.Token.{Token}
-
--- a line cut at each space: two spaces side by side, or one at an end, have an empty text beside them
-abbrev pub words_of : List ℕ → List (List ℕ)
-words_of line = slice_split (λ byte. byte == 32) line
 
 -- what a token spans of a line
 abbrev pub text_of : List ℕ → Token → List ℕ
 text_of line token = slice_range line token.from token.to
 
--- the tokens of these words of a line with this number, where the first begins at this place and one byte stands between two
+-- the tokens of these words of a line with this number, where the first begins at this place and one byte stands
+-- between two
 abbrev pub tokens_from : ℕ → ℕ → List (List ℕ) → List Token
 tokens_from number from [] = []
 tokens_from number from (word ∷ words) =

@@ -1,13 +1,13 @@
 //! Bytes in hexadecimal digits.
 ghost use Rattle.std.specs.Prelude.{◌≡◌, ◌+◌, ◌*◌, ◌/◌, ◌<◌, ◌++◌, length, drop, IsTrue, IfSome, IfNone, if◌then◌else◌, Some, None};
 ghost use Rattle.std.specs.List.{list_all};
-ghost use Rattle.kz_text.specs.Numbers.{is_hex_digit as hex_digit_form, hex_digit as digit_of, is_hex as hex_form, hex_bytes};
+ghost use Rattle.kz_model.specs.Grammar.Tokens.{is_hex_digit as hex_digit_form, hex_digit as digit_of, is_hex as hex_form, bytes_of_hex};
 
 /// Puts the bytes that a text is to the front of `into`, and gives their number. The text is 2 to
 /// 64 lower-case hexadecimal digits, an even number of them. None for any other text.
 pub fn read_hex(text: &[u8], into: &mut [u8; 32]) -> Option<usize>
     ensures count { result ≡ (if hex_form text.now then Some (length text.now / 2) else None) }
-    ensures filled { IfSome result (λ k. into.new ≡ hex_bytes text.now ++ drop k into.old) }
+    ensures filled { IfSome result (λ k. into.new ≡ bytes_of_hex text.now ++ drop k into.old) }
     ensures unchanged { IfNone result (into.new ≡ into.old) }
 {
     if !is_hex(text) {

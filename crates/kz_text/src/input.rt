@@ -35,13 +35,15 @@ pub fn read_all<S: Source>(alloc: Global, source: &mut S, limit: u64) -> Result<
     // more than the limit was read.
     ensures ok { IfOk result (λ bytes. Consumes (S.rest source.old) (S.rest source.new) bytes.items) }
     ensures err { IfErr result (λ fault. HasReadAt fault (S.rest source.old) (S.rest source.new) limit) }
-    ensures too_long { result ≡ Err (InputFault.TooLong limit) → IfSome (S.rest source.old) (λ rest. limit < length rest) }
+    ensures too_long { result ≡ Err (InputFault.TooLong limit) →
+        IfSome (S.rest source.old) (λ rest. limit < length rest) }
 
     ensures later { S.faults source.old ≤ S.faults source.new }
     ensures cause { result ≡ Err InputFault.ReadFault → Rose (S.faults source.old) (S.faults source.new) }
 
     ensures sure_stays { S.is_sure source.new ≡ S.is_sure source.old }
-    ensures sure { IsTrue (S.is_sure source.old) → (result ≢ Err InputFault.ReadFault) × (S.faults source.new ≡ S.faults source.old) }
+    ensures sure { IsTrue (S.is_sure source.old) → (result ≢ Err InputFault.ReadFault) ×
+        (S.faults source.new ≡ S.faults source.old) }
 {
     let room = limit as usize + 1;
     let mut bytes = Vec::new(alloc);

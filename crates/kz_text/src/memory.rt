@@ -27,7 +27,14 @@ impl Model for MemorySource {
 
     ghost Value = { Seen };
 
-    ghost view = { λ s. record { rest = drop s.at s.bytes.items; step = s.step; fails = s.fails.items; call = s.call; faults = s.faults } };
+    ghost view = { λ s. record {
+      rest = drop s.at s.bytes.items;
+      step = s.step;
+      fails = s.fails.items;
+      call =
+          s.call;
+      faults = s.faults;
+    } };
 
     ghost invariant = { λ s. (s.at ≤ length s.bytes.items) × (0 < s.step) };
 }
@@ -70,8 +77,10 @@ impl Source for MemorySource {
         // Exactly the calls with the numbers in `fails` fail. The others give as much as they can.
         ensures fails { is_err result ≡ is_failing self.old.fails self.old.call }
         ensures count { IfOk result (λ n. n ≡ min (min self.old.step (length into.old)) (length self.old.rest)) }
-        ensures given { IfOk result (λ n. self.new ≡ record self.old { rest = drop n self.old.rest; call = next_call self.old.call }) }
-        ensures failed { OnErr result (self.new ≡ record self.old { call = next_call self.old.call; faults = one_more self.old.faults }) }
+        ensures given { IfOk result (λ n. self.new
+            ≡ record self.old { rest = drop n self.old.rest; call = next_call self.old.call }) }
+        ensures failed { OnErr result (self.new
+            ≡ record self.old { call = next_call self.old.call; faults = one_more self.old.faults }) }
     {
         let call = self.call;
         self.call = after(call);
@@ -104,7 +113,15 @@ impl Model for MemorySink {
 
     ghost Value = { Seen };
 
-    ghost view = { λ s. record { taken = s.taken.items; room = s.room; step = s.step; fails = s.fails.items; call = s.call; faults = s.faults } };
+    ghost view = { λ s. record {
+      taken = s.taken.items;
+      room = s.room;
+      step = s.step;
+      fails = s.fails.items;
+      call =
+          s.call;
+      faults = s.faults;
+    } };
 
     ghost invariant = { λ s. (vec_len s.taken + s.room ≤ vec_capacity s.taken) × (0 < s.step) };
 }
@@ -120,7 +137,8 @@ impl MemorySink {
         fails: Vec<u64>,
     ) -> Result<MemorySink, AllocError>
         requires { 0 < step }
-        ensures { IfOk result (λ sink. sink ≡ record { taken = []; room = room; step = step; fails = fails.items; call = Some 0; faults = 0 }) }
+        ensures { IfOk result (λ sink. sink
+            ≡ record { taken = []; room = room; step = step; fails = fails.items; call = Some 0; faults = 0 }) }
     {
         Ok(MemorySink {
             taken: Vec::with_capacity(alloc, room)?,
@@ -157,13 +175,22 @@ impl Sink for MemorySink {
         ensures later { self.old.faults ≤ self.new.faults }
         ensures cause { OnErr result (Rose self.old.faults self.new.faults) }
         ensures sure { length from.now ≤ room_for_sure self.old → IsOk result × (self.new.faults ≡ self.old.faults) }
-        ensures room { length from.now ≤ room_for_sure self.old → IfOk result (λ n. room_for_sure self.old ≤ room_for_sure self.new + n) }
+        ensures room { length from.now ≤ room_for_sure self.old →
+            IfOk result (λ n. room_for_sure self.old ≤ room_for_sure self.new + n) }
 
-        // Exactly the calls with the numbers in `fails`, or with no room left, fail. The others take as much as they can.
+        // Exactly the calls with the numbers in `fails`, or with no room left, fail. The others take as much as they
+        // can.
         ensures fails { is_err result ≡ (is_failing self.old.fails self.old.call || (self.old.room == 0)) }
         ensures count { IfOk result (λ n. n ≡ min (min self.old.step (length from.now)) self.old.room) }
-        ensures given { IfOk result (λ n. self.new ≡ record self.old { taken = self.old.taken ++ take n from.now; room = self.old.room - n; call = next_call self.old.call }) }
-        ensures failed { OnErr result (self.new ≡ record self.old { call = next_call self.old.call; faults = one_more self.old.faults }) }
+        ensures given { IfOk result (λ n. self.new
+            ≡ record self.old {
+              taken = self.old.taken ++ take n from.now;
+              room = self.old.room - n;
+              call =
+                  next_call self.old.call;
+            }) }
+        ensures failed { OnErr result (self.new
+            ≡ record self.old { call = next_call self.old.call; faults = one_more self.old.faults }) }
     {
         let call = self.call;
         self.call = after(call);

@@ -3,7 +3,7 @@ ghost use Rattle.std.specs.Prelude.{◌≡◌, ◌+◌, ◌*◌, ◌<◌, ◌^�
 ghost use Rattle.std.specs.List.{list_all};
 ghost use Rattle.std.specs.Str.Parse.{digits_value};
 ghost use Rattle.std.specs.Char.{digit_value};
-ghost use Rattle.kz_text.specs.Numbers.{is_digit as digit_form, is_decimal as decimal_form, number_of};
+ghost use Rattle.kz_model.specs.Grammar.Tokens.{is_digit as digit_form, is_decimal as decimal_form, number_of};
 
 /// The number that a text is: `0`, or 1 to 20 digits without a leading zero. None for any other
 /// text, and for a number above 2^64 - 1.

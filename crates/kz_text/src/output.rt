@@ -15,7 +15,8 @@ pub fn write_whole<K: Sink>(sink: &mut K, bytes: &[u8]) -> Result<(), Failed>
 
     // Where the sure room suffices, no write fails, and no more than the bytes is used of it.
     ensures sure { length bytes.now ≤ K.sure_room sink.old → IsOk result × (K.faults sink.new ≡ K.faults sink.old) }
-    ensures room { length bytes.now ≤ K.sure_room sink.old → K.sure_room sink.old ≤ K.sure_room sink.new + length bytes.now }
+    ensures room { length bytes.now ≤ K.sure_room sink.old → K.sure_room sink.old ≤ K.sure_room sink.new
+        + length bytes.now }
 {
     let mut at = 0;
     while at < bytes.len() {

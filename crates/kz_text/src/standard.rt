@@ -34,13 +34,17 @@ impl<R: Read> Source for StdSource<R> {
     fn read(&mut self, into: &mut [u8]) -> Result<usize, Failed>
         requires { 0 < length into.old }
         ensures bound { ReadsAtMost result into.new }
-        ensures bytes { ReadConsumes (⟦<StdSource<R> as Source>⟧.rest self.old) (⟦<StdSource<R> as Source>⟧.rest self.new) result into.new }
+        ensures bytes { ReadConsumes (⟦<StdSource<R> as Source>⟧.rest self.old)
+            (⟦<StdSource<R> as Source>⟧.rest self.new) result into.new }
         ensures later { ⟦<StdSource<R> as Source>⟧.faults self.old ≤ ⟦<StdSource<R> as Source>⟧.faults self.new }
-        ensures cause { OnErr result (Rose (⟦<StdSource<R> as Source>⟧.faults self.old) (⟦<StdSource<R> as Source>⟧.faults self.new)) }
+        ensures cause { OnErr result
+            (Rose (⟦<StdSource<R> as Source>⟧.faults self.old) (⟦<StdSource<R> as Source>⟧.faults self.new)) }
 
         // The count rises exactly at a failure.
-        ensures given { OnOk result (⟦<StdSource<R> as Source>⟧.faults self.new ≡ ⟦<StdSource<R> as Source>⟧.faults self.old) }
-        ensures failed { OnErr result (⟦<StdSource<R> as Source>⟧.faults self.new ≡ one_more (⟦<StdSource<R> as Source>⟧.faults self.old)) }
+        ensures given { OnOk result (⟦<StdSource<R> as Source>⟧.faults self.new
+            ≡ ⟦<StdSource<R> as Source>⟧.faults self.old) }
+        ensures failed { OnErr result (⟦<StdSource<R> as Source>⟧.faults self.new
+            ≡ one_more (⟦<StdSource<R> as Source>⟧.faults self.old)) }
     {
         match self.from.read(into) {
             Ok(count) => Ok(count),
@@ -82,14 +86,18 @@ impl<W: Write> Sink for StdSink<W> {
 
         ensures some { IfOk result (λ n. 0 < n) }
         ensures bound { IfOk result (λ n. n ≤ length from.now) }
-        ensures ok { IfOk result (λ n. Appends (⟦<StdSink<W> as Sink>⟧.taken self.old) (⟦<StdSink<W> as Sink>⟧.taken self.new) (take n from.now)) }
-        ensures err { OnErr result (AppendsFront (⟦<StdSink<W> as Sink>⟧.taken self.old) (⟦<StdSink<W> as Sink>⟧.taken self.new) from.now) }
+        ensures ok { IfOk result (λ n. Appends (⟦<StdSink<W> as Sink>⟧.taken self.old)
+            (⟦<StdSink<W> as Sink>⟧.taken self.new) (take n from.now)) }
+        ensures err { OnErr result
+            (AppendsFront (⟦<StdSink<W> as Sink>⟧.taken self.old) (⟦<StdSink<W> as Sink>⟧.taken self.new) from.now) }
         ensures later { ⟦<StdSink<W> as Sink>⟧.faults self.old ≤ ⟦<StdSink<W> as Sink>⟧.faults self.new }
-        ensures cause { OnErr result (Rose (⟦<StdSink<W> as Sink>⟧.faults self.old) (⟦<StdSink<W> as Sink>⟧.faults self.new)) }
+        ensures cause { OnErr result
+            (Rose (⟦<StdSink<W> as Sink>⟧.faults self.old) (⟦<StdSink<W> as Sink>⟧.faults self.new)) }
 
         // The count rises exactly at a failure.
         ensures given { OnOk result (⟦<StdSink<W> as Sink>⟧.faults self.new ≡ ⟦<StdSink<W> as Sink>⟧.faults self.old) }
-        ensures failed { OnErr result (⟦<StdSink<W> as Sink>⟧.faults self.new ≡ one_more (⟦<StdSink<W> as Sink>⟧.faults self.old)) }
+        ensures failed { OnErr result (⟦<StdSink<W> as Sink>⟧.faults self.new
+            ≡ one_more (⟦<StdSink<W> as Sink>⟧.faults self.old)) }
     {
         let written = self.to.write(from);
         match written {

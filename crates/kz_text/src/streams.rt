@@ -58,5 +58,6 @@ pub trait Sink {
         ensures cause { OnErr result (Rose (faults self.old) (faults self.new)) }
 
         ensures sure { length from.now ≤ sure_room self.old → IsOk result × (faults self.new ≡ faults self.old) }
-        ensures room { length from.now ≤ sure_room self.old → IfOk result (λ n. sure_room self.old ≤ sure_room self.new + n) };
+        ensures room { length from.now ≤ sure_room self.old →
+            IfOk result (λ n. sure_room self.old ≤ sure_room self.new + n) };
 }

@@ -1,7 +1,8 @@
 //! A line token by token.
 ghost use Rattle.std.specs.Prelude.{◌≡◌, ◌≢◌, ◌+◌, ◌^◌, ◌<◌, ◌≤◌, length, map, IfOk, IfNone, IfSome};
 ghost use Rattle.std.specs.List.{All};
-ghost use Rattle.kz_text.specs.Tokens.{words_of, text_of, tokens_from, SpaceAt};
+ghost use Rattle.kz_model.specs.Grammar.Tokens.{tokens_of};
+ghost use Rattle.kz_text.specs.Tokens.{text_of, tokens_from, SpaceAt};
 
 use crate::Line;
 use std::alloc::{AllocError, Global};
@@ -21,9 +22,10 @@ pub fn tokens(alloc: Global, line: &Line) -> Result<Vec<Token>, AllocError>
     requires { length line.now.text.now < 2 ^ 32 }
 
     // Each token begins one byte after the one before it ends.
-    ensures spans { IfOk result (λ tokens. tokens.items ≡ tokens_from line.now.number 0 (words_of line.now.text.now)) }
-    ensures texts { IfOk result (λ tokens. map (text_of line.now.text.now) tokens.items ≡ words_of line.now.text.now) }
-    ensures within { IfOk result (λ tokens. All (λ token. (token.from ≤ token.to) × (token.to ≤ length line.now.text.now)) tokens.items) }
+    ensures spans { IfOk result (λ tokens. tokens.items ≡ tokens_from line.now.number 0 (tokens_of line.now.text.now)) }
+    ensures texts { IfOk result (λ tokens. map (text_of line.now.text.now) tokens.items ≡ tokens_of line.now.text.now) }
+    ensures within { IfOk result
+        (λ tokens. All (λ token. (token.from ≤ token.to) × (token.to ≤ length line.now.text.now)) tokens.items) }
 {
     let mut tokens = Vec::new(alloc);
     let mut from = 0;

@@ -1,7 +1,7 @@
 use Rattle.std.proofs.Common.{sym, ◌∙◌, arith}
 use Rattle.kz_text.proofs.Cut.{length-TakesLine}
-use Rattle.kz_model.specs.Tokens.{words_of}
-use Rattle.kz_model.specs.Form.{form_of, rest_at}
+use Rattle.kz_model.specs.Grammar.Tokens.{tokens_of}
+use Rattle.kz_model.specs.Grammar.Form.{form_of, rest_at}
 use Rattle.kz_bundle.specs.Reading.{so_far}
 use Rattle.kz_bundle.proofs.Cutting.{goes_on, line_refused, refused_of, ends_with}
 use Rattle.kz_bundle.proofs.Turns.{of_any}
@@ -13,7 +13,7 @@ loop-reader-preserved c =
     let line = c.in-Some.line in
     let taken = c.in-Some.ensures.some in
     let long = length-TakesLine taken in
-    let turns = of_any l.reader.place (so_far l.reader) (so_far c.line.new.self) line.number (words_of line.text.now) c.in-Ok.ensures.takes in
+    let turns = of_any l.reader.place (so_far l.reader) (so_far c.line.new.self) line.number (tokens_of line.text.now) c.in-Ok.ensures.takes in
     record {
       number = omega (arith, taken.told, taken.counted);
       few = omega (arith, long, taken.counted, l.invariant.few);

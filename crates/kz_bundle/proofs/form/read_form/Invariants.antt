@@ -1,7 +1,6 @@
 use Rattle.std.proofs.Common.{◌≡◌, ◌+◌, ◌≤◌, length}
-use Rattle.kz_model.specs.Tokens.{lines_of}
-use Rattle.kz_model.specs.Form.{form_from, form_of}
-use Rattle.kz_bundle.specs.Parts.{turns_of}
+use Rattle.kz_model.specs.Grammar.Tokens.{lines_of}
+use Rattle.kz_model.specs.Grammar.Form.{form_from, form_of, turns_of}
 use Rattle.kz_bundle.specs.Reading.{so_far, IsReading}
 use Rattle.kz_bundle.proofs.form.read_form.Given as goal
 

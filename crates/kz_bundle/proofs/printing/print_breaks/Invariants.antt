@@ -1,5 +1,5 @@
 use Rattle.std.proofs.Common.{◌≡◌, ◌-◌, ◌++◌, replicate}
-use Rattle.kz_model.specs.Form.{Break}
+use Rattle.kz_model.specs.Grammar.Form.{Break}
 use Rattle.kz_bundle.specs.Printing.{lines_text}
 use Rattle.kz_bundle.proofs.printing.print_breaks.Given as goal
 

@@ -1,6 +1,6 @@
 use Rattle.std.proofs.Common.{◌≡◌, ◌++◌, drop}
 use Rattle.std.specs.List.{flat_map, enumerate_from}
-use Rattle.kz_model.specs.Spelling.{cpu_lines}
+use Rattle.kz_model.specs.Grammar.Spelling.{cpu_lines}
 use Rattle.kz_bundle.specs.Printing.{lines_text}
 use Rattle.kz_bundle.proofs.printing.print_sections.Given as goal
 

@@ -1,5 +1,5 @@
 use Rattle.std.proofs.Common.{◌≡◌, ◌++◌, drop}
-use Rattle.kz_model.specs.Spelling.{section_lines}
+use Rattle.kz_model.specs.Grammar.Spelling.{section_lines}
 use Rattle.kz_bundle.specs.Printing.{lines_text}
 use Rattle.kz_bundle.proofs.printing.print_steps.Given as goal
 

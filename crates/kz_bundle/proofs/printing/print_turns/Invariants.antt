@@ -1,5 +1,5 @@
 use Rattle.std.proofs.Common.{◌≡◌, ◌++◌, drop, map}
-use Rattle.kz_model.specs.Spelling.{turn_of}
+use Rattle.kz_model.specs.Grammar.Spelling.{turn_of}
 use Rattle.kz_bundle.specs.Printing.{lines_text}
 use Rattle.kz_bundle.proofs.printing.print_turns.Given as goal
 

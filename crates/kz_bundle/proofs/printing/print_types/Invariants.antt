@@ -1,5 +1,5 @@
 use Rattle.std.proofs.Common.{◌≡◌, ◌++◌, drop, map}
-use Rattle.kz_model.specs.Form.{Declares}
+use Rattle.kz_model.specs.Grammar.Form.{Declares}
 use Rattle.kz_bundle.specs.Printing.{lines_text}
 use Rattle.kz_bundle.proofs.printing.print_types.Given as goal
 

@@ -1,7 +1,7 @@
 use Rattle.std.proofs.Common.{◌+◌, ◌-◌, slice_index_or, ap, ◌∙◌, arith}
 use Rattle.kz_model.specs.declared.bundle.Bundle.{Bundle}
 use Rattle.kz_bundle.proofs.Renumbered.{built, is_built}
-use Rattle.kz_bundle.specs.declared.parts.Part.{Part}
+use Rattle.kz_bundle.specs.declared.form.parts.Part.{Part}
 use Rattle.kz_bundle.proofs.read.bundle_of.Goals as goal
 
 pub returns : goal.returns

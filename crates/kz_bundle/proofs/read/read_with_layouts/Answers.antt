@@ -1,9 +1,9 @@
 -- What is read is what is spelled, and it is valid.
 use Rattle.std.proofs.Common.{◌≡◌, ap, sym, ◌∙◌, None, Ok}
-use Rattle.kz_model.specs.Stages.{after_form, unless, later_fault, bundle_of}
-use Rattle.kz_model.specs.Spelling.{Spells}
-use Rattle.kz_model.specs.Layouts.{layouts_of}
-use Rattle.kz_model.specs.Valid.{IsValid, layouts_in, ok_or_none}
+use Rattle.kz_model.specs.Grammar.Stages.{after_form, unless, later_fault, bundle_of}
+use Rattle.kz_model.specs.Grammar.Spelling.{Spells}
+use Rattle.kz_model.specs.Types.Layouts.{layouts_of}
+use Rattle.kz_model.specs.Grammar.Valid.{IsValid, layouts_in, ok_or_none}
 use Rattle.kz_bundle.specs.Parts.{draft_of}
 use Rattle.kz_bundle.proofs.Columns.{if_ok_both}
 use Rattle.kz_bundle.proofs.Walking.{spelling_is_reading}

@@ -1,5 +1,5 @@
 use Rattle.std.proofs.Common.{◌≡◌, ◌++◌, map}
-use Rattle.kz_model.specs.Traces.{renumbered_step}
+use Rattle.kz_model.specs.Store.Traces.{renumbered_step}
 use Rattle.kz_bundle.proofs.read.traces_of.Given as goal
 
 abbrev pub invariant-loop-section : goal.invariant-loop-section

@@ -6,11 +6,11 @@ use Rattle.std.specs.BTreeMap.{is_at}
 use Rattle.std.specs.Cmp.Lexicographic.{slice_cmp}
 use Rattle.std.specs.Ordering.{nat_cmp}
 use Rattle.kz_model.specs.declared.bundle.Field.{Field}
-use Rattle.kz_model.specs.Cover.{nothing_covered}
-use Rattle.kz_model.specs.Layouts.{Text, no_fields, fields_from, inner_of as inner_by_kind, has, IsSoundKind, IsSoundField}
+use Rattle.kz_model.specs.Types.Cover.{nothing_covered}
+use Rattle.kz_model.specs.Types.Layouts.{Text, no_fields, fields_from, inner_of as inner_by_kind, has, IsSoundKind, IsSoundField}
 use Rattle.kz_model.proofs.Unions.{inner_of-union, sound_fields}
 use Rattle.kz_layout.specs.Gives.{Gives}
-use Rattle.kz_layout.specs.Shown.{Shows, types_at, field_names}
+use Rattle.kz_layout.specs.Shown.{ShowsInside, types_at, field_names}
 use Rattle.kz_layout.specs.Tables.{AreNames}
 use Rattle.kz_layout.proofs.Tables.{names_added, field_names_more, not_seen, was_seen}
 use Rattle.kz_layout.proofs.Walks.{same_name, one_fault, goes_on, shows_more, shows_none}
@@ -31,7 +31,7 @@ pub inner_of-returns-in-Union : goal.inner_of-returns-in-Union
 inner_of-returns-in-Union t c = λ covers all.
     let types = types_at c.args.names.now covers in
     let given = ap (inner_by_kind types) c.in-Union.is ∙ inner_of-union types c.in-Union.fields ∙ ap (fields_from types true no_fields) (sym c.as_slice.ensures) in
-    subst (Gives Shows c.fields_of.result) (sym given) (c.fields_of.ensures covers all)
+    subst (Gives ShowsInside c.fields_of.result) (sym given) (c.fields_of.ensures covers all)
 
 pub inner_of-returns-in-Ptr : goal.inner_of-returns-in-Ptr
 inner_of-returns-in-Ptr t c = λ covers all. (no_fields, ap (inner_by_kind (types_at c.args.names.now covers)) c.in-Ptr.is, shows_none c.new.result c.new.ensures)
@@ -113,7 +113,7 @@ fields_of-loop-field-preserved t c =
           let unseen : has f.name names ≡ false = ap (λ q. has q names) (sym c.as_slice.ensures) ∙ sym (l.invariant.seen c.as_slice.result.now) ∙ not_seen c.in-Ok.is_new _ c.in-Ok.ensures.added (search rules) in
           let laid = c.in_ok-so_far.ensures.gives covers inner.0 so_far.0 all inner.2 so_far.1.stands in
           let step = goes_on types c.args.in_union names so_far.0 f more inner.0 laid.0 inner.1 unseen laid.1 in
-          let R : List Text → Type 0 = λ ns. Shows c.in_ok-so_far.so_far (record { names = ns; body = laid.0 }) in (
+          let R : List Text → Type 0 = λ ns. ShowsInside c.in_ok-so_far.so_far (record { names = ns; body = laid.0 }) in (
             laid.0,
             subst R longer (shows_more c.in_ok-so_far.so_far names f.name laid.0 laid.2 c.in_ok-so_far.ensures.some),
             ap (λ ns. fields_from types c.args.in_union (record { names = ns; body = laid.0 }) more) (sym longer) ∙ sym step ∙ whole,

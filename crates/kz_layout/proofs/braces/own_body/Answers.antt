@@ -1,5 +1,5 @@
 use Rattle.std.proofs.Common.{sym, ap, ◌∙◌, subst}
-use Rattle.kz_model.specs.Layouts.{own_cover, declared_one, earlier_one, place_of}
+use Rattle.kz_model.specs.Types.Layouts.{own_cover, declared_one, earlier_one, place_of}
 use Rattle.kz_layout.specs.Granules.{Stands}
 use Rattle.kz_layout.specs.Shown.{types_at}
 use Rattle.kz_layout.proofs.Bodies.{one_stands, none_stands}

@@ -1,6 +1,6 @@
 use Rattle.std.proofs.Common.{All, false, sym, ap, ◌∙◌, subst}
 use Rattle.std.proofs.lemmas.Result.{err_from_is_err_and}
-use Rattle.kz_model.specs.Layouts.{IsSoundField, no_fields, fields_from, is_earlier, place_of, then_do, whole}
+use Rattle.kz_model.specs.Types.Layouts.{IsSoundField, no_fields, fields_from, is_earlier, place_of, then_do, whole}
 use Rattle.kz_layout.specs.Gives.{Gives}
 use Rattle.kz_layout.specs.Granules.{Stands}
 use Rattle.kz_layout.specs.Shown.{types_at}

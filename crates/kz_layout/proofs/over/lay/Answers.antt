@@ -1,5 +1,5 @@
 use Rattle.std.proofs.Common.{◌++◌, length, replicate, arith, ap, ◌∙◌}
-use Rattle.kz_model.specs.Cover.{over}
+use Rattle.kz_model.specs.Types.Cover.{over}
 use Rattle.kz_layout.proofs.Overs.{laid_none, laid_again, length-over_copy}
 use Rattle.kz_layout.proofs.over.lay.Goals as goal
 

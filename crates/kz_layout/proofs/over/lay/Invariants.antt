@@ -1,5 +1,5 @@
 use Rattle.std.proofs.Common.{◌≡◌, ◌+◌, ◌*◌, ◌≤◌, length}
-use Rattle.kz_model.specs.Cover.{over, at_offset}
+use Rattle.kz_model.specs.Types.Cover.{over, at_offset}
 use Rattle.kz_layout.proofs.over.lay.Given as goal
 
 -- the copies so far lie over the codes, and the next one begins inside them or at their end

@@ -1,5 +1,5 @@
 use Rattle.std.proofs.Common.{◌≡◌, ◌+◌, ◌≤◌, ◌++◌, length, replicate, take}
-use Rattle.kz_model.specs.Cover.{over}
+use Rattle.kz_model.specs.Types.Cover.{over}
 use Rattle.kz_layout.proofs.over.lay_one.Given as goal
 
 -- the granules so far lie over the codes, and the next one falls inside them or at their end

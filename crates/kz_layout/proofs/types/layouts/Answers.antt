@@ -3,7 +3,7 @@ use Rattle.std.proofs.lemmas.List.{take-append-drop, drop_more, length-take-le}
 use Rattle.kz_model.specs.declared.bundle.TypeDecl.{TypeDecl}
 use Rattle.kz_model.specs.declared.layout.LayoutCause.{LayoutCause}
 use Rattle.kz_model.specs.declared.layout.LayoutCause.TheVariants.{Memory}
-use Rattle.kz_model.specs.Layouts.{names_of, layouts_of}
+use Rattle.kz_model.specs.Types.Layouts.{names_of, layouts_of}
 use Rattle.kz_layout.proofs.types.layouts.Goals as goal
 
 pub returns-in-Err-clause-fault : goal.returns-in-Err-clause-fault

@@ -1,5 +1,5 @@
 use Rattle.std.proofs.Common.{◌≡◌, take}
-use Rattle.kz_model.specs.Layouts.{names_of}
+use Rattle.kz_model.specs.Types.Layouts.{names_of}
 use Rattle.kz_layout.specs.Laid.{HasLaidOut}
 use Rattle.kz_layout.proofs.types.layouts.Given as goal
 

@@ -1,6 +1,6 @@
 use Rattle.std.proofs.Common.{◌≡◌, take}
-use Rattle.kz_model.specs.Layouts.{names_of}
-use Rattle.kz_layout.specs.Tables.{texts}
+use Rattle.kz_model.specs.Types.Layouts.{names_of}
+use Rattle.kz_model.specs.Grammar.Tokens.{texts}
 use Rattle.kz_layout.proofs.types.type_names.Given as goal
 
 -- the names so far

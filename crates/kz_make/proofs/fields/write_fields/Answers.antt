@@ -1,6 +1,6 @@
 use Rattle.std.proofs.Common.{◌≡◌, ℕ, ◌+◌, ◌-◌, ◌*◌, ◌++◌, codes, List, refl, ap, sym, ◌∙◌, arith}
-use Rattle.kz_model.specs.Made.{drawn, field_made, fields_made}
-use Rattle.kz_model.specs.Spelling.{field_text, fields_text, more_fields_text}
+use Rattle.kz_model.specs.Text.Made.{drawn, field_made, fields_made}
+use Rattle.kz_model.specs.Grammar.Spelling.{field_text, fields_text, more_fields_text}
 use Rattle.kz_make.specs.Writing.{words_at}
 use Rattle.kz_make.proofs.Left.{Left, left_more, left_none}
 use Rattle.kz_make.proofs.Pieces.{text_more, first_field, more_fields, behind_written}

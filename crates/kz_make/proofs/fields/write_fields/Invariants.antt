@@ -1,6 +1,6 @@
 use Rattle.std.proofs.Common.{◌≡◌, ℕ, ◌+◌, ◌-◌, ◌*◌, ◌++◌}
-use Rattle.kz_model.specs.Made.{fields_made}
-use Rattle.kz_model.specs.Spelling.{fields_text, more_fields_text}
+use Rattle.kz_model.specs.Text.Made.{fields_made}
+use Rattle.kz_model.specs.Grammar.Spelling.{fields_text, more_fields_text}
 use Rattle.kz_make.specs.Writing.{words_at}
 use Rattle.kz_make.proofs.Left.{Left}
 use Rattle.kz_make.proofs.fields.write_fields.Given as goal

@@ -1,5 +1,5 @@
 use Rattle.std.proofs.Common.{◌≡◌, ◌-◌, ◌++◌, List, ℕ, [], ap, sym, ◌∙◌, arith, append-nil}
-use Rattle.kz_model.specs.Made.{drawn_count, later_count, later_turns}
+use Rattle.kz_model.specs.Text.Made.{drawn_count, later_count, later_turns}
 use Rattle.kz_bundle.specs.Printing.{lines_text}
 use Rattle.kz_make.proofs.Counts.{drawn_are, later_are}
 use Rattle.kz_make.proofs.Pieces.{text_more, two_pieces, later_turns_text}

@@ -1,5 +1,5 @@
 use Rattle.std.proofs.Common.{◌≡◌, ◌-◌, ◌++◌}
-use Rattle.kz_model.specs.Made.{later_count, later_turns}
+use Rattle.kz_model.specs.Text.Made.{later_count, later_turns}
 use Rattle.kz_bundle.specs.Printing.{lines_text}
 use Rattle.kz_make.proofs.order.write_later_turns.Given as goal
 

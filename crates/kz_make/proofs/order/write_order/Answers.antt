@@ -1,6 +1,6 @@
 use Rattle.std.proofs.Common.{◌≡◌, ◌+◌, ◌++◌, List, ℕ, ap, sym, ◌∙◌, arith}
 use Rattle.std.proofs.lemmas.Result.{on_ok_weaker}
-use Rattle.kz_model.specs.Made.{names_count, drawn_count}
+use Rattle.kz_model.specs.Text.Made.{names_count, drawn_count}
 use Rattle.kz_make.proofs.Counts.{names_are, drawn_are}
 use Rattle.kz_make.proofs.Pieces.{two_pieces, order_text}
 use Rattle.kz_make.proofs.order.write_order.Goals as goal

@@ -1,4 +1,4 @@
-use Rattle.kz_model.specs.Made.{turns_made}
+use Rattle.kz_model.specs.Text.Made.{turns_made}
 use Rattle.kz_bundle.specs.Printing.{lines_text}
 use Rattle.kz_make.proofs.Pieces.{text_more, turns_more}
 use Rattle.kz_make.proofs.order.write_turns.Goals as goal

@@ -1,5 +1,5 @@
 use Rattle.std.proofs.Common.{◌≡◌, ◌-◌, ◌++◌}
-use Rattle.kz_model.specs.Made.{turns_made}
+use Rattle.kz_model.specs.Text.Made.{turns_made}
 use Rattle.kz_bundle.specs.Printing.{lines_text}
 use Rattle.kz_make.proofs.order.write_turns.Given as goal
 

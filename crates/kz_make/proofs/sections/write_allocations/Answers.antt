@@ -1,6 +1,6 @@
 use Rattle.std.proofs.Common.{◌≡◌, ◌-◌, ◌++◌, map, List, ℕ, ap, sym, ◌∙◌, arith, append-nil}
-use Rattle.kz_model.specs.Form.{Does}
-use Rattle.kz_model.specs.Made.{names_count, names_allocated}
+use Rattle.kz_model.specs.Grammar.Form.{Does}
+use Rattle.kz_model.specs.Text.Made.{names_count, names_allocated}
 use Rattle.kz_bundle.specs.Printing.{lines_text}
 use Rattle.kz_make.proofs.Counts.{names_are}
 use Rattle.kz_make.proofs.Pieces.{text_more, two_pieces, allocated_text}

@@ -1,6 +1,6 @@
 use Rattle.std.proofs.Common.{◌≡◌, ◌-◌, ◌++◌, map}
-use Rattle.kz_model.specs.Form.{Does}
-use Rattle.kz_model.specs.Made.{names_count, names_allocated}
+use Rattle.kz_model.specs.Grammar.Form.{Does}
+use Rattle.kz_model.specs.Text.Made.{names_count, names_allocated}
 use Rattle.kz_bundle.specs.Printing.{lines_text}
 use Rattle.kz_make.proofs.sections.write_allocations.Given as goal
 

@@ -1,6 +1,6 @@
 use Rattle.std.proofs.Common.{◌≡◌, ℕ, ◌+◌, ◌-◌, ◌*◌, ◌++◌, map}
-use Rattle.kz_model.specs.Form.{Does}
-use Rattle.kz_model.specs.Made.{drawn_count, steps_drawn}
+use Rattle.kz_model.specs.Grammar.Form.{Does}
+use Rattle.kz_model.specs.Text.Made.{drawn_count, steps_drawn}
 use Rattle.kz_bundle.specs.Printing.{lines_text}
 use Rattle.kz_make.specs.Writing.{words_at}
 use Rattle.kz_make.proofs.Left.{Left}

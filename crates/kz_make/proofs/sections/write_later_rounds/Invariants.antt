@@ -1,5 +1,5 @@
 use Rattle.std.proofs.Common.{◌≡◌, ℕ, ◌+◌, ◌-◌, ◌*◌, ◌++◌}
-use Rattle.kz_model.specs.Made.{later_count, rounds_drawn, later_lines}
+use Rattle.kz_model.specs.Text.Made.{later_count, rounds_drawn, later_lines}
 use Rattle.kz_bundle.specs.Printing.{lines_text}
 use Rattle.kz_make.specs.Writing.{words_at}
 use Rattle.kz_make.proofs.Left.{Left}

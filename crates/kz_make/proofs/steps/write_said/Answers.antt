@@ -1,6 +1,6 @@
 use Rattle.std.proofs.lemmas.Result.{on_ok_weaker}
 use Rattle.kz_make.proofs.Results.{pushed}
-use Rattle.kz_make.proofs.Saids.{read_said, write_said}
+use Rattle.kz_make.proofs.NamedSteps.{read_said, write_said}
 use Rattle.kz_make.proofs.steps.write_said.Goals as goal
 
 pub returns-in_ok-write_on_name-in-11 : goal.returns-in_ok-write_on_name-in-11

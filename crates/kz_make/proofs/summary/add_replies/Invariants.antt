@@ -1,6 +1,6 @@
 use Rattle.std.proofs.Common.{◌≡◌, ◌+◌, ◌++◌, List, take}
 use Rattle.kz_model.specs.declared.step.Reply.{Reply}
-use Rattle.kz_make.specs.Telling.{IsWithin, AreTotals}
+use Rattle.kz_make.specs.Totals.{IsWithin, AreTotals}
 use Rattle.kz_make.proofs.summary.add_replies.Given as goal
 
 -- the replies so far are told

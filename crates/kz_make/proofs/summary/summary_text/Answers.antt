@@ -1,6 +1,6 @@
 use Rattle.std.proofs.Common.{ap, subst}
-use Rattle.kz_make.specs.Telling.{replies_in, AreTotals}
-use Rattle.kz_make.proofs.Tellings.{summary_written}
+use Rattle.kz_make.specs.Totals.{replies_in, AreTotals}
+use Rattle.kz_make.proofs.TotalsOfReplies.{summary_written}
 use Rattle.kz_make.proofs.summary.summary_text.Goals as goal
 
 pub returns : goal.returns

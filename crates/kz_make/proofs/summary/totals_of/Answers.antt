@@ -1,5 +1,5 @@
 use Rattle.std.proofs.Common.{◌^◌, length, ap, ◌∙◌, arith}
-use Rattle.kz_make.proofs.Tellings.{few_replies}
+use Rattle.kz_make.proofs.TotalsOfReplies.{few_replies}
 use Rattle.kz_make.proofs.summary.totals_of.Goals as goal
 
 pub add_replies-requires-clause-few : goal.add_replies-requires-clause-few

@@ -1,5 +1,5 @@
 use Rattle.std.proofs.Common.{take}
-use Rattle.kz_make.specs.Telling.{replies_in, IsWithin, AreTotals}
+use Rattle.kz_make.specs.Totals.{replies_in, IsWithin, AreTotals}
 use Rattle.kz_make.proofs.summary.totals_of.Given as goal
 
 -- the replies of the CPUs so far are told

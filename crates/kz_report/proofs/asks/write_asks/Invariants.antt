@@ -1,5 +1,5 @@
 use Rattle.std.proofs.Common.{◌≡◌, ◌++◌, take, map}
-use Rattle.kz_model.specs.Text.{ask_line, text_of_lines}
+use Rattle.kz_model.specs.Text.Lines.{ask_line, text_of_lines}
 use Rattle.kz_report.proofs.asks.write_asks.Given as goal
 
 -- the lines so far are written

@@ -1,7 +1,7 @@
 use Rattle.std.proofs.Common.{◌≡◌, ◌++◌, map}
 use Rattle.std.specs.List.{range_with_len}
 use Rattle.std.specs.String.{string_bytes}
-use Rattle.kz_model.specs.Text.{text_of_lines}
+use Rattle.kz_model.specs.Text.Lines.{text_of_lines}
 use Rattle.kz_report.specs.Lines.{type_line_of}
 use Rattle.kz_report.proofs.planned.write_types.Given as goal
 

@@ -1,7 +1,7 @@
 use Rattle.std.proofs.Common.{◌≡◌, ◌++◌, map, take}
 use Rattle.std.specs.List.{enumerate_from}
 use Rattle.std.specs.String.{string_bytes}
-use Rattle.kz_model.specs.Text.{text_of_lines}
+use Rattle.kz_model.specs.Text.Lines.{text_of_lines}
 use Rattle.kz_report.specs.Lines.{numbered_zone_line}
 use Rattle.kz_report.proofs.planned.write_zones.Given as goal
 

@@ -1,7 +1,7 @@
 use Rattle.std.proofs.Common.{◌≡◌, ◌++◌, ℕ, List, length, [], ap, codes, decimal, sym, arith, append_assoc, ◌∙◌}
 use Rattle.kz_model.specs.declared.bundle.TraceStep.{TraceStep}
 use Rattle.kz_model.specs.declared.step.Reply.{Reply}
-use Rattle.kz_model.specs.Report.{cpu_lines}
+use Rattle.kz_model.specs.Text.Report.{cpu_lines}
 use Rattle.kz_report.proofs.BasePages.{are_bases}
 use Rattle.kz_report.proofs.Lookups.{item_is}
 use Rattle.kz_report.proofs.PlanText.{more_lines}

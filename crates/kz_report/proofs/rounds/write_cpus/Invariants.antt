@@ -1,7 +1,7 @@
 use Rattle.std.proofs.Common.{◌≡◌, ◌++◌}
 use Rattle.std.specs.List.{flat_map, range_with_len}
-use Rattle.kz_model.specs.Report.{cpu_lines}
-use Rattle.kz_model.specs.Text.{text_of_lines}
+use Rattle.kz_model.specs.Text.Report.{cpu_lines}
+use Rattle.kz_model.specs.Text.Lines.{text_of_lines}
 use Rattle.kz_report.proofs.rounds.write_cpus.Given as goal
 
 -- the sections so far are written

@@ -1,5 +1,5 @@
 use Rattle.std.proofs.Common.{slice_index_or, refl}
-use Rattle.kz_model.specs.Traces.{no_step}
+use Rattle.kz_model.specs.Run.Journal.{no_step}
 use Rattle.kz_report.proofs.LineTexts.{place_on}
 use Rattle.kz_report.proofs.rounds.write_lines.Goals as goal
 

@@ -1,5 +1,5 @@
 use Rattle.std.proofs.Common.{◌≡◌, ◌++◌, ◌-◌, map, take, drop}
-use Rattle.kz_model.specs.Text.{text_of_lines}
+use Rattle.kz_model.specs.Text.Lines.{text_of_lines}
 use Rattle.kz_report.specs.Lines.{answered_line, said}
 use Rattle.kz_report.proofs.rounds.write_lines.Given as goal
 

@@ -1,6 +1,6 @@
 use Rattle.std.proofs.Common.{List, ◌++◌, ◌∙◌, refl, ap, codes, map, []}
 use Rattle.kz_model.specs.declared.supply.SupplyEntry.{SupplyEntry}
-use Rattle.kz_model.specs.Text.{ask_line, text_of_lines}
+use Rattle.kz_model.specs.Text.Lines.{ask_line, text_of_lines}
 use Rattle.kz_report.proofs.LineTexts.{all_sections}
 use Rattle.kz_report.proofs.texts.report_of.Goals as goal
 

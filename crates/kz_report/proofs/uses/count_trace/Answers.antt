@@ -1,5 +1,5 @@
 use Rattle.std.proofs.Common.{◌+◌, slice_index_or, arith, refl, sym, ◌∙◌}
-use Rattle.kz_model.specs.Traces.{no_step}
+use Rattle.kz_model.specs.Run.Journal.{no_step}
 use Rattle.kz_report.proofs.Tally.{fewer, count_past, counted_on, few_on}
 use Rattle.kz_report.proofs.uses.count_trace.Goals as goal
 

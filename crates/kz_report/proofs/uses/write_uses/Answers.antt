@@ -1,6 +1,6 @@
 use Rattle.std.proofs.Common.{List, ℕ, ◌++◌, ap, ◌∙◌, codes, length, arith}
-use Rattle.kz_model.specs.Recorded.{cpu_answered}
-use Rattle.kz_model.specs.Report.{use_line, all_answered_lines}
+use Rattle.kz_model.specs.Run.Recorded.{cpu_answered}
+use Rattle.kz_model.specs.Text.Report.{use_line, all_answered_lines}
 use Rattle.kz_report.proofs.PlanText.{more_of_range}
 use Rattle.kz_report.proofs.Reportable.{has_section}
 use Rattle.kz_report.proofs.Tally.{use_is, uses_long}

@@ -1,7 +1,7 @@
 use Rattle.std.proofs.Common.{◌≡◌, ◌++◌, map}
 use Rattle.std.specs.List.{range_with_len}
-use Rattle.kz_model.specs.Report.{use_line, all_answered_lines}
-use Rattle.kz_model.specs.Text.{text_of_lines}
+use Rattle.kz_model.specs.Text.Report.{use_line, all_answered_lines}
+use Rattle.kz_model.specs.Text.Lines.{text_of_lines}
 use Rattle.kz_report.proofs.uses.write_uses.Given as goal
 
 -- the lines so far are written

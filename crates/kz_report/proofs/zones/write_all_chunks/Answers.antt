@@ -1,7 +1,7 @@
 use Rattle.std.proofs.Common.{◌≡◌, ◌++◌, length, [], map, ap, arith, ◌∙◌}
 use Rattle.std.specs.List.{enumerate_from, flat_map, range_with_len}
-use Rattle.kz_model.specs.Report.{chunk_line, zone_chunks}
-use Rattle.kz_model.specs.Text.{text_of_lines}
+use Rattle.kz_model.specs.Text.Report.{chunk_line, zone_chunks}
+use Rattle.kz_model.specs.Text.Lines.{text_of_lines}
 use Rattle.kz_report.proofs.BasePages.{are_bases}
 use Rattle.kz_report.proofs.Lookups.{item_is}
 use Rattle.kz_report.proofs.PlanText.{more_lines}

@@ -1,5 +1,5 @@
 use Rattle.std.proofs.Common.{[], slice_index_or, arith, ◌∙◌}
-use Rattle.kz_model.specs.Report.{zone_visits_lines}
+use Rattle.kz_model.specs.Text.Report.{zone_visits_lines}
 use Rattle.kz_report.proofs.Lookups.{item_is}
 use Rattle.kz_report.proofs.PlanText.{more_lines}
 use Rattle.kz_report.proofs.Reportable.{visits_written}

@@ -1,7 +1,7 @@
 use Rattle.std.proofs.Common.{◌≡◌, ◌++◌, [], slice_index_or}
 use Rattle.std.specs.List.{flat_map, range_with_len}
-use Rattle.kz_model.specs.Report.{zone_visits_lines}
-use Rattle.kz_model.specs.Text.{text_of_lines}
+use Rattle.kz_model.specs.Text.Report.{zone_visits_lines}
+use Rattle.kz_model.specs.Text.Lines.{text_of_lines}
 use Rattle.kz_report.proofs.zones.write_all_visits.Given as goal
 
 -- the zones so far are written

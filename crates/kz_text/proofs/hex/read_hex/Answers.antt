@@ -2,8 +2,8 @@ use Rattle.std.proofs.Common.{◌≡◌, ℕ, ◌+◌, ◌*◌, ◌/◌, ◌<◌
 use Rattle.std.proofs.Math.Seq.{paste}
 use Rattle.std.proofs.lemmas.List.Edits.{paste_more, paste_all}
 use Rattle.std.proofs.lemmas.Grind.{common_steps}
-use Rattle.kz_text.specs.Numbers.{is_hex, hex_bytes}
-use Rattle.kz_text.proofs.HexBytes.{length-hex_bytes, get-hex_bytes}
+use Rattle.kz_model.specs.Grammar.Tokens.{is_hex, bytes_of_hex}
+use Rattle.kz_text.proofs.HexBytes.{length-bytes_of_hex, get-bytes_of_hex}
 use Rattle.kz_text.proofs.hex.read_hex.Goals as goal
 
 -- a hexadecimal text is short
@@ -29,7 +29,7 @@ loop-place-preserved c =
     let k = c.loop-place.place in
     let few : length text ≤ 64 = at_most_64 text (sym c.if-not-is_hex.ensures) in
     let here : k < length text / 2 = c.loop-place-test.true in
-    one_more _ (hex_bytes text) _ k _ c.loop-place.invariant (c.byte_of.ensures ∙ sym (get-hex_bytes text k (2 * k) (2 * k + 1) refl refl (omega arith))) (omega (arith, c.told-into)) (omega (arith, length-hex_bytes text))
+    one_more _ (bytes_of_hex text) _ k _ c.loop-place.invariant (c.byte_of.ensures ∙ sym (get-bytes_of_hex text k (2 * k) (2 * k + 1) refl refl (omega arith))) (omega (arith, c.told-into)) (omega (arith, length-bytes_of_hex text))
 
 pub returns-clause-filled : goal.returns-clause-filled
-returns-clause-filled c = all_over _ (hex_bytes c.args.text.now) _ c.loop-place.place (length c.args.text.now / 2) c.loop-place.invariant (omega arith) (sym (length-hex_bytes c.args.text.now))
+returns-clause-filled c = all_over _ (bytes_of_hex c.args.text.now) _ c.loop-place.place (length c.args.text.now / 2) c.loop-place.invariant (omega arith) (sym (length-bytes_of_hex c.args.text.now))

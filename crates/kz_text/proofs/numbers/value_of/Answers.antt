@@ -3,7 +3,7 @@ use Rattle.std.proofs.Math.Nat.{pow-le-pow_right, pow-suc}
 use Rattle.std.proofs.lemmas.Grind.{common_steps}
 use Rattle.std.proofs.lemmas.Int.Digits.{digits_value_more}
 use Rattle.std.specs.Char.{digit_value}
-use Rattle.kz_text.specs.Numbers.{is_decimal}
+use Rattle.kz_model.specs.Grammar.Tokens.{is_decimal}
 use Rattle.kz_text.proofs.numbers.value_of.Goals as goal
 
 -- a decimal text is short

@@ -1,5 +1,5 @@
 use Rattle.std.proofs.Common.{◌/◌, sym, subst, ap, ◌∙◌, ◌≤◌, arith}
-use Rattle.kz_model.specs.Cover.{over}
+use Rattle.kz_model.specs.Types.Cover.{over}
 use Rattle.kz_layout.specs.Granules.{Stands, laid_codes}
 use Rattle.kz_layout.specs.contracts.body.Body.{the_view as body_view}
 use Rattle.kz_layout.specs.contracts.body.Fields.{the_view as fields_view}

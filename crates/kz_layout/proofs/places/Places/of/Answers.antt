@@ -1,7 +1,8 @@
 use Rattle.std.proofs.Common.{◌≡◌, ◌+◌, [], ◌∷◌, ◌++◌, List, length, take, get_or, ℕ, Bor, ap, ◌∙◌, sym, subst, arith, rules}
 use Rattle.std.proofs.lemmas.List.{length-map, length-take-le}
-use Rattle.kz_model.specs.Layouts.{Text}
-use Rattle.kz_layout.specs.Tables.{ArePlaces, texts}
+use Rattle.kz_model.specs.Types.Layouts.{Text}
+use Rattle.kz_model.specs.Grammar.Tokens.{texts}
+use Rattle.kz_layout.specs.Tables.{ArePlaces}
 use Rattle.kz_layout.proofs.Tables.{places_kept, places_added, texts_more}
 use Rattle.kz_layout.proofs.places.Places.of.Goals.{then-not-contains_key+in_ok-insert, else-not-contains_key}
 use Rattle.kz_layout.proofs.places.Places.of.Goals as goal

@@ -1,5 +1,6 @@
 use Rattle.std.proofs.Common.{take}
-use Rattle.kz_layout.specs.Tables.{ArePlaces, texts}
+use Rattle.kz_model.specs.Grammar.Tokens.{texts}
+use Rattle.kz_layout.specs.Tables.{ArePlaces}
 use Rattle.kz_layout.proofs.places.Places.of.Given as goal
 
 -- the map has the first place of each name so far

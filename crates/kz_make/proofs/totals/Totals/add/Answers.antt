@@ -1,5 +1,5 @@
 use Rattle.std.proofs.Common.{Bool, if◌then◌else◌, ap, ◌∙◌}
-use Rattle.kz_make.proofs.Tellings.{totals_more}
+use Rattle.kz_make.proofs.TotalsOfReplies.{totals_more}
 use Rattle.kz_make.proofs.totals.Totals.add.Goals as goal
 
 pub returns-clause-more : goal.returns-clause-more

@@ -1,6 +1,6 @@
 use Rattle.std.proofs.Common.{◌≡◌, [], map}
 use Rattle.std.specs.List.{range_with_len}
-use Rattle.kz_model.specs.Report.{bases}
+use Rattle.kz_model.specs.Run.Journal.{bases}
 use Rattle.kz_report.proofs.pages.Pages.none.Given as goal
 
 -- the zones so far have no pages

@@ -1,6 +1,6 @@
 use Rattle.std.proofs.Common.{◌≡◌, map, take}
 use Rattle.std.specs.List.{range_with_len}
-use Rattle.kz_model.specs.Report.{bases}
+use Rattle.kz_model.specs.Run.Journal.{bases}
 use Rattle.kz_report.proofs.pages.Pages.of_log.Given as goal
 
 -- the pages that the entries so far give

@@ -1,7 +1,0 @@
-use Rattle.std.proofs.Common.{◌≡◌, map, take}
-use Rattle.kz_bundle.specs.Parts.{texts}
-use Rattle.kz_bundle.specs.Rows.{numbered_row}
-use Rattle.kz_bundle.proofs.entry.rows_of.Given as goal
-
-abbrev pub invariant-loop-entry : goal.invariant-loop-entry
-invariant-loop-entry l = l.rows ≡ map (numbered_row (texts l.names) l.types) (take l.entry-index l.entries)
