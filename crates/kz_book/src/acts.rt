@@ -1,15 +1,15 @@
 //! The step of a visit, by its kind.
 ghost use Rattle.std.specs.Prelude.{ℕ, ◌≡◌, ◌+◌, ◌*◌, ◌<◌, ◌≤◌, ◌++◌, [], ◌∷◌, ◌==◌, true, false, length, take, drop, Some, is_none, if◌then◌else◌, OnOk, OnErr};
-ghost use Rattle.std.specs.List.{count_by, remove};
+ghost use Rattle.std.specs.List.{remove};
 ghost use Rattle.std.specs.Option.{unwrap_or};
-ghost use Rattle.kz_model.specs.Rules.{newest, below_newest, ready, spilled, block_of as block_named, gift_place, gift_at, with_bytes, bytes_at};
-ghost use Rattle.kz_model.specs.Whole.{AreAway};
-ghost use Rattle.kz_model.specs.Zone.{Shared, chunk_at};
+ghost use Rattle.kz_model.specs.Zone.Rules.{newest, below_newest, ready, after_spill, block_of as block_named, gift_place, gift_at, with_bytes, bytes_at};
+ghost use Rattle.kz_model.specs.Zone.Whole.{AreAway};
+ghost use Rattle.kz_model.specs.Zone.State.{Shared, chunk_at};
 ghost use Rattle.kz_supply.specs.Exchange.{denied_reply};
-ghost use Rattle.kz_zone.specs.Growth.{CanAnswer, HasPlace};
-ghost use Rattle.kz_zone.specs.Zone.{Shows, IsSame, IsSettled, IsBlock, shared_of, want_of};
-ghost use Rattle.kz_book.specs.Acts.{IsOrderly, Acts, Fills, scene};
-ghost use Rattle.kz_book.specs.Visits.{want_at, gives, trims, ReadsFew};
+ghost use Rattle.kz_zone.specs.Growth.{CanServe, HasAsked, chunks_of};
+ghost use Rattle.kz_zone.specs.Zone.{StandsFor, IsSame, IsSettled, IsBlock, shared_of, want_of};
+ghost use Rattle.kz_book.specs.Acts.{IsOrderly, HasEffectInEachState, filling_asks, scene};
+ghost use Rattle.kz_book.specs.Visits.{CanTakeStep, want_at, backs_at};
 ghost use Rattle.kz_model.specs.declared.step.Step.TheVariants.{Alloc as AllocStep, AllocZero as AllocZeroStep};
 
 use kz_model::{Block, Bound, Piece, Reply, Step};
@@ -61,8 +61,12 @@ fn free(zone: &mut Zone, pair: &mut Pair, bound: &mut Option<Bound>) -> Reply
     requires some { 0 < pair.old.magazine }
     requires away { AreAway zone.old.params (shared_of zone.old) pair.old.blocks }
     ensures reply { result ≡ Reply.Done }
-    ensures shows { (s : Shared) → Shows zone.old s → Shows zone.new (spilled zone.old.params (take pair.old.magazine pair.old.blocks) s) }
-    ensures stack { pair.new ≡ record pair.old { blocks = drop pair.old.magazine pair.old.blocks ++ block_named bound.old ∷ [] } }
+    ensures shows { (s : Shared) → StandsFor zone.old s →
+        StandsFor zone.new (after_spill zone.old.params (take pair.old.magazine pair.old.blocks) s) }
+    ensures stack { pair.new ≡ record pair.old {
+      blocks = drop pair.old.magazine pair.old.blocks
+          ++ block_named bound.old ∷ [];
+    } }
     ensures bound { bound.new ≡ Some (record { block = block_named bound.old; held = false }) }
     ensures same { IsSettled zone.old zone.new }
 {
@@ -78,7 +82,11 @@ fn give(zone: &mut Zone, bound: &mut Option<Bound>, name: u32, to: u32) -> Reply
     requires there { is_none bound.old ≡ false }
     requires room { length zone.old.transit < zone.old.most_gifts }
     ensures reply { result ≡ Reply.Done }
-    ensures shows { (s : Shared) → Shows zone.old s → Shows zone.new (record s { transit = s.transit ++ record { to = to; name = name; block = block_named bound.old } ∷ [] }) }
+    ensures shows { (s : Shared) → StandsFor zone.old s →
+        StandsFor zone.new (record s {
+          transit = s.transit
+              ++ record { to = to; name = name; block = block_named bound.old } ∷ [];
+        }) }
     ensures bound { bound.new ≡ Some (record { block = block_named bound.old; held = false }) }
     ensures same { IsSettled zone.old zone.new }
 {
@@ -91,9 +99,15 @@ fn give(zone: &mut Zone, bound: &mut Option<Bound>, name: u32, to: u32) -> Reply
 /// Takes the oldest gift for a CPU and one of its names.
 fn take(zone: &mut Zone, bound: &mut Option<Bound>, cpu: u32, name: u32) -> Reply
     ensures reply { result ≡ (if is_none (gift_place cpu name zone.old.transit) then Reply.NotGiven else Reply.Done) }
-    ensures shows { is_none (gift_place cpu name zone.old.transit) ≡ false → (s : Shared) → Shows zone.old s → Shows zone.new (record s { transit = remove s.transit (unwrap_or (gift_place cpu name s.transit) 0) }) }
-    ensures bound { is_none (gift_place cpu name zone.old.transit) ≡ false → bound.new ≡ Some (record { block = (gift_at zone.old.transit (unwrap_or (gift_place cpu name zone.old.transit) 0)).block; held = true }) }
-    ensures unchanged { is_none (gift_place cpu name zone.old.transit) ≡ true → (zone.new ≡ zone.old) × (bound.new ≡ bound.old) }
+    ensures shows { is_none (gift_place cpu name zone.old.transit) ≡ false → (s : Shared) → StandsFor zone.old s →
+        StandsFor zone.new (record s { transit = remove s.transit (unwrap_or (gift_place cpu name s.transit) 0) }) }
+    ensures bound { is_none (gift_place cpu name zone.old.transit) ≡ false → bound.new
+        ≡ Some (record {
+          block = (gift_at zone.old.transit (unwrap_or (gift_place cpu name zone.old.transit) 0)).block;
+          held = true;
+        }) }
+    ensures unchanged { is_none (gift_place cpu name zone.old.transit) ≡ true → (zone.new ≡ zone.old) ×
+        (bound.new ≡ bound.old) }
     ensures same { IsSettled zone.old zone.new }
 {
     match zone.take(cpu, name) {
@@ -114,7 +128,9 @@ fn read(zone: &Zone, bound: Option<Bound>, off: u32, len: u32) -> Reply
     requires there { IsBlock zone.now (block_named bound) }
     requires inside { off + len ≤ zone.now.params.element }
     requires few { len ≤ 32 }
-    ensures { result ≡ (if (chunk_at zone.now.chunks (block_named bound).chunk).mapped then Reply.Bytes (bytes_at zone.now.params (block_named bound) off len (shared_of zone.now)) else Reply.Unmapped) }
+    ensures { result ≡ (if (chunk_at zone.now.chunks (block_named bound).chunk).mapped
+        then Reply.Bytes (bytes_at zone.now.params (block_named bound) off len (shared_of zone.now))
+        else Reply.Unmapped) }
 {
     match zone.read(block_of(bound), off, len) {
         Some(bytes) => Reply::Bytes { bytes },
@@ -127,8 +143,10 @@ fn write(zone: &mut Zone, bound: Option<Bound>, off: u32, bytes: &Piece) -> Repl
     requires named { is_none bound ≡ false }
     requires there { IsBlock zone.old (block_named bound) }
     requires inside { off + length bytes.now ≤ zone.old.params.element }
-    ensures reply { result ≡ (if (chunk_at zone.old.chunks (block_named bound).chunk).mapped then Reply.Done else Reply.Unmapped) }
-    ensures shows { (chunk_at zone.old.chunks (block_named bound).chunk).mapped ≡ true → (s : Shared) → Shows zone.old s → Shows zone.new (with_bytes zone.old.params (block_named bound) off bytes.now s) }
+    ensures reply { result ≡ (if (chunk_at zone.old.chunks (block_named bound).chunk).mapped then Reply.Done
+        else Reply.Unmapped) }
+    ensures shows { (chunk_at zone.old.chunks (block_named bound).chunk).mapped ≡ true → (s : Shared) →
+        StandsFor zone.old s → StandsFor zone.new (with_bytes zone.old.params (block_named bound) off bytes.now s) }
     ensures unchanged { (chunk_at zone.old.chunks (block_named bound).chunk).mapped ≡ false → zone.new ≡ zone.old }
     ensures same { IsSettled zone.old zone.new }
 {
@@ -142,18 +160,17 @@ fn write(zone: &mut Zone, bound: Option<Bound>, off: u32, bytes: &Piece) -> Repl
 /// Fills a stack if it is empty.
 fn fill<P: Pages>(zone: &mut Zone, pair: &mut Pair, pages: &mut P) -> Result<(), Denied>
     requires same_magazine { pair.old.magazine ≡ zone.old.params.magazine }
-    requires same_zone { P.params pages.old ≡ zone.old.params }
-    requires answers { CanAnswer (if length pair.old.blocks == 0 then want_of zone.old else Want.Nothing) (P.can_chunk pages.old) (P.can_frames pages.old) }
-    requires few { HasPlace (if length pair.old.blocks == 0 then want_of zone.old else Want.Nothing) (P.grants pages.old) (length zone.old.chunks) zone.old.most_chunks }
-    ensures shows { OnOk result ((s : Shared) → Shows zone.old s → Shows zone.new (ready zone.old.params s pair.old.blocks).1) }
-    ensures stack { OnOk result ((s : Shared) → Shows zone.old s → pair.new ≡ record pair.old { blocks = (ready zone.old.params s pair.old.blocks).0 }) }
+    requires serves { CanServe (P.seen pages.old) (chunks_of zone.old) (if length pair.old.blocks == 0
+        then want_of zone.old else Want.Nothing) 0 }
+    ensures shows { OnOk result ((s : Shared) → StandsFor zone.old s →
+        StandsFor zone.new (ready zone.old.params s pair.old.blocks).1) }
+    ensures stack { OnOk result ((s : Shared) → StandsFor zone.old s → pair.new
+        ≡ record pair.old { blocks = (ready zone.old.params s pair.old.blocks).0 }) }
     ensures some { OnOk result (0 < length pair.new.blocks) }
     ensures unchanged { OnErr result ((zone.new ≡ zone.old) × (pair.new ≡ pair.old)) }
     ensures same { IsSame zone.old zone.new }
-    ensures asked { Fills zone.old zone.new pair.old.blocks result (P.exchanges pages.old) (P.exchanges pages.new) }
-    ensures grants { P.grants pages.new + length zone.new.chunks ≡ P.grants pages.old + length zone.old.chunks }
-    ensures params { P.params pages.new ≡ P.params pages.old }
-    ensures base { P.base pages.new ≡ P.base pages.old }
+    ensures asked { HasAsked (filling_asks zone.old.params (shared_of zone.old) pair.old.blocks) (chunks_of zone.old)
+        (chunks_of zone.new) result (P.seen pages.old) (P.seen pages.new) }
 {
     if pair.len() > 0 {
         return Ok(());
@@ -170,15 +187,13 @@ fn allocate<P: Pages>(
 ) -> Reply
     requires same_magazine { pair.old.magazine ≡ zone.old.params.magazine }
     requires at { (cpu name : ℕ) × IsOrderly (scene zone.old pair.old.blocks bound.old) cpu (AllocStep name) }
-    requires same_zone { P.params pages.old ≡ zone.old.params }
-    requires answers { CanAnswer (want_at zone.old pair.old.blocks (AllocStep 0)) (P.can_chunk pages.old) (P.can_frames pages.old) }
-    requires few { HasPlace (want_at zone.old pair.old.blocks (AllocStep 0)) (P.grants pages.old) (length zone.old.chunks) zone.old.most_chunks }
-    ensures acts { (cpu name : ℕ) → Acts (scene zone.old pair.old.blocks bound.old) (scene zone.new pair.new.blocks bound.new) cpu (AllocStep name) result (P.exchanges pages.old) (P.exchanges pages.new) }
+    requires serves { CanServe (P.seen pages.old) (chunks_of zone.old) (want_at zone.old pair.old.blocks (AllocStep 0))
+        0 }
+    ensures acts { (cpu name : ℕ) →
+        HasEffectInEachState (scene zone.old pair.old.blocks bound.old) (scene zone.new pair.new.blocks bound.new) cpu
+        (AllocStep name) result (P.seen pages.old) (P.seen pages.new) }
     ensures same { IsSame zone.old zone.new }
     ensures magazine { pair.new.magazine ≡ pair.old.magazine }
-    ensures grants { P.grants pages.new + length zone.new.chunks ≡ P.grants pages.old + length zone.old.chunks }
-    ensures params { P.params pages.new ≡ P.params pages.old }
-    ensures base { P.base pages.new ≡ P.base pages.old }
 {
     match fill(zone, pair, pages) {
         Ok(()) => Reply::Block {
@@ -197,15 +212,13 @@ fn allocate_zero<P: Pages>(
 ) -> Reply
     requires same_magazine { pair.old.magazine ≡ zone.old.params.magazine }
     requires at { (cpu name : ℕ) × IsOrderly (scene zone.old pair.old.blocks bound.old) cpu (AllocZeroStep name) }
-    requires same_zone { P.params pages.old ≡ zone.old.params }
-    requires answers { CanAnswer (want_at zone.old pair.old.blocks (AllocZeroStep 0)) (P.can_chunk pages.old) (P.can_frames pages.old) }
-    requires few { HasPlace (want_at zone.old pair.old.blocks (AllocZeroStep 0)) (P.grants pages.old) (length zone.old.chunks) zone.old.most_chunks }
-    ensures acts { (cpu name : ℕ) → Acts (scene zone.old pair.old.blocks bound.old) (scene zone.new pair.new.blocks bound.new) cpu (AllocZeroStep name) result (P.exchanges pages.old) (P.exchanges pages.new) }
+    requires serves { CanServe (P.seen pages.old) (chunks_of zone.old)
+        (want_at zone.old pair.old.blocks (AllocZeroStep 0)) 0 }
+    ensures acts { (cpu name : ℕ) →
+        HasEffectInEachState (scene zone.old pair.old.blocks bound.old) (scene zone.new pair.new.blocks bound.new) cpu
+        (AllocZeroStep name) result (P.seen pages.old) (P.seen pages.new) }
     ensures same { IsSame zone.old zone.new }
     ensures magazine { pair.new.magazine ≡ pair.old.magazine }
-    ensures grants { P.grants pages.new + length zone.new.chunks ≡ P.grants pages.old + length zone.old.chunks }
-    ensures params { P.params pages.new ≡ P.params pages.old }
-    ensures base { P.base pages.new ≡ P.base pages.old }
 {
     match fill(zone, pair, pages) {
         Ok(()) => {
@@ -228,18 +241,13 @@ pub fn act<P: Pages>(
 ) -> Reply
     requires same_magazine { pair.old.magazine ≡ zone.old.params.magazine }
     requires at { IsOrderly (scene zone.old pair.old.blocks bound.old) cpu step.now }
-    requires transit { gives step.now ≡ true → length zone.old.transit < zone.old.most_gifts }
-    requires reads { ReadsFew step.now }
-    requires same_zone { P.params pages.old ≡ zone.old.params }
-    requires answers { CanAnswer (want_at zone.old pair.old.blocks step.now) (P.can_chunk pages.old) (P.can_frames pages.old) }
-    requires few { HasPlace (want_at zone.old pair.old.blocks step.now) (P.grants pages.old) (length zone.old.chunks) zone.old.most_chunks }
-    requires backs { trims step.now ≡ true → count_by (λ chunk. chunk.mapped) zone.old.chunks ≤ P.backs pages.old }
-    ensures acts { Acts (scene zone.old pair.old.blocks bound.old) (scene zone.new pair.new.blocks bound.new) cpu step.now result (P.exchanges pages.old) (P.exchanges pages.new) }
+    requires step { CanTakeStep zone.old step.now }
+    requires serves { CanServe (P.seen pages.old) (chunks_of zone.old) (want_at zone.old pair.old.blocks step.now)
+        (backs_at zone.old step.now) }
+    ensures acts { HasEffectInEachState (scene zone.old pair.old.blocks bound.old)
+        (scene zone.new pair.new.blocks bound.new) cpu step.now result (P.seen pages.old) (P.seen pages.new) }
     ensures same { IsSame zone.old zone.new }
     ensures magazine { pair.new.magazine ≡ pair.old.magazine }
-    ensures grants { P.grants pages.new + length zone.new.chunks ≡ P.grants pages.old + length zone.old.chunks }
-    ensures params { P.params pages.new ≡ P.params pages.old }
-    ensures base { P.base pages.new ≡ P.base pages.old }
 {
     match step {
         Step::Alloc { .. } => allocate(zone, pair, bound, pages),

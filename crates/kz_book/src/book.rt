@@ -1,16 +1,14 @@
 //! The book of a zone.
-ghost use Rattle.std.specs.Prelude.{◌≡◌, ◌+◌, ◌^◌, ◌<◌, ◌≤◌, ◌++◌, [], ◌∷◌, List, true, length, map, sum, slice_index, IfOk, vec_len, vec_capacity};
-ghost use Rattle.std.specs.List.{count_by, filter_map};
-ghost use Rattle.kz_model.specs.Zone.{own_of, chunk_at};
-ghost use Rattle.kz_model.specs.Late.{NeedNone};
-ghost use Rattle.kz_model.specs.Report.{page_of};
-ghost use Rattle.kz_supply.specs.Exchange.{Exchange, answer_of};
-ghost use Rattle.kz_zone.specs.Growth.{CanAnswer, HasPlace};
-ghost use Rattle.kz_zone.specs.Room.{IsFit};
-ghost use Rattle.kz_zone.specs.Zone.{IsKept};
-ghost use Rattle.kz_book.specs.Acts.{Acts, scene};
-ghost use Rattle.kz_book.specs.Book.{Journal, Keeps, HasRoom, params_of};
-ghost use Rattle.kz_book.specs.Visits.{IsAtVisit, Extends, Settles, visit_of, settled_of, want_at, gives, trims, bound_there, ReadsFew};
+ghost use Rattle.std.specs.Prelude.{◌≡◌, ◌+◌, ◌^◌, ◌<◌, ◌≤◌, ◌++◌, [], ◌∷◌, List, length, sum, slice_index, IfOk, vec_len, vec_capacity};
+ghost use Rattle.kz_model.specs.Zone.State.{cpu_part, chunk_at};
+ghost use Rattle.kz_model.specs.Zone.Late.{NeedNone};
+ghost use Rattle.kz_supply.specs.Exchange.{Exchange};
+ghost use Rattle.kz_zone.specs.Growth.{CanServe, chunks_of};
+ghost use Rattle.kz_zone.specs.Room.{IsFitRoom};
+ghost use Rattle.kz_zone.specs.Zone.{IsSoundZone};
+ghost use Rattle.kz_book.specs.Acts.{HasEffectInEachState, scene};
+ghost use Rattle.kz_book.specs.Book.{History, KeepsHistory, HasRoom, HasSameRoom, params_of};
+ghost use Rattle.kz_book.specs.Visits.{IsAtVisit, CanTakeStep, HasUsed, Extends, Settles, visit_of, settled_of, want_at, backs_at, bound_there};
 
 use crate::acts::act;
 use kz_model::{Bound, Items, RecentSteps, Reply, Room, Step, Visit};
@@ -63,14 +61,14 @@ fn total(steps: &[u32]) -> u32
 impl Book {
     /// The book of a zone that no CPU has visited.
     pub fn new(alloc: Global, room: &Room) -> Result<Book, AllocError>
-        requires { IsFit room.now }
+        requires { IsFitRoom room.now }
         ensures room { IfOk result (λ book. book.room ≡ room.now) }
         ensures visits { IfOk result (λ book. book.visits ≡ []) }
         ensures chunks { IfOk result (λ book. book.zone.chunks ≡ []) }
         ensures bases { IfOk result (λ book. book.zone.bases ≡ []) }
         ensures most_chunks { IfOk result (λ book. book.zone.most_chunks ≡ room.now.chunks) }
         ensures most_gifts { IfOk result (λ book. book.zone.most_gifts ≡ room.now.transit) }
-        ensures keeps { IfOk result (λ book. (j : Journal) × Keeps book j × (j.steps ≡ []) × (j.answers ≡ [])) }
+        ensures keeps { IfOk result (λ book. (j : History) × KeepsHistory book j × (j.steps ≡ []) × (j.answers ≡ [])) }
     {
         Ok(Book {
             room: copy_of(alloc, room)?,
@@ -79,7 +77,8 @@ impl Book {
         })
     }
 
-    /// A visit of a CPU: its recent steps, which needed none, and a step that needs one. `pair` is its stack, and `bound` what the step's name is bound to.
+    /// A visit of a CPU: its recent steps, which needed none, and a step that needs one. `pair` is its stack, and
+    /// `bound` what the step's name is bound to.
     pub fn visit<P: Pages>(
         &mut self,
         round: u32,
@@ -92,32 +91,29 @@ impl Book {
     ) -> Reply
         requires cpu { cpu < (params_of self.old).cpus }
         requires same_magazine { pair.old.magazine ≡ (params_of self.old).magazine }
-        requires at { (j : Journal) × Keeps self.old j × IsAtVisit (params_of self.old) j cpu recent.now pair.old.blocks bound.old step.now }
+        requires at { (j : History) × KeepsHistory self.old j ×
+            IsAtVisit (params_of self.old) j cpu recent.now pair.old.blocks bound.old step.now }
         requires room { HasRoom self.old cpu (length recent.now + 1) }
-        requires transit { gives step.now ≡ true → length self.old.zone.transit < self.old.zone.most_gifts }
-        requires reads { ReadsFew step.now }
-        requires same_zone { P.params pages.old ≡ params_of self.old }
-        requires answers { CanAnswer (want_at self.old.zone pair.old.blocks step.now) (P.can_chunk pages.old) (P.can_frames pages.old) }
-        requires few { HasPlace (want_at self.old.zone pair.old.blocks step.now) (P.grants pages.old) (length self.old.zone.chunks) self.old.zone.most_chunks }
-        requires backs { trims step.now ≡ true → count_by (λ chunk. chunk.mapped) self.old.zone.chunks ≤ P.backs pages.old }
+        requires step { CanTakeStep self.old.zone step.now }
+        requires serves { CanServe (P.seen pages.old) (chunks_of self.old.zone)
+            (want_at self.old.zone pair.old.blocks step.now) (backs_at self.old.zone step.now) }
         ensures visits { self.new.visits ≡ self.old.visits ++ visit_of round cpu recent.now ∷ [] }
-        ensures room { self.new.room ≡ self.old.room }
+        ensures same { HasSameRoom self.old self.new }
         ensures magazine { pair.new.magazine ≡ pair.old.magazine }
-        ensures most_chunks { self.new.zone.most_chunks ≡ self.old.zone.most_chunks }
-        ensures most_gifts { self.new.zone.most_gifts ≡ self.old.zone.most_gifts }
 
         // The zone asked for what the step asks, and keeps the history with this visit.
-        ensures keeps { (exchanges : List Exchange) × (P.exchanges pages.new ≡ P.exchanges pages.old ++ exchanges)
-            × (self.new.zone.bases ≡ self.old.zone.bases ++ filter_map page_of (map answer_of exchanges))
-            × ((j : Journal) → Keeps self.old j → IsAtVisit (params_of self.old) j cpu recent.now pair.old.blocks bound.old step.now →
-            (after : Journal) × Keeps self.new after × Extends (params_of self.old) cpu j after recent.now step.now result exchanges
-            × (pair.new.blocks ≡ (own_of after.made.end cpu).stack) × (bound.new ≡ bound_there (own_of after.made.end cpu) step.now)) }
+        ensures keeps { (exchanges : List Exchange) ×
+            HasUsed self.old.zone self.new.zone (P.seen pages.old) (P.seen pages.new) exchanges ×
+            ((j : History) → KeepsHistory self.old j →
+            IsAtVisit (params_of self.old) j cpu recent.now pair.old.blocks bound.old step.now →
+            (after : History) × KeepsHistory self.new after ×
+            Extends (params_of self.old) cpu j after recent.now step.now result exchanges
+            × (pair.new.blocks ≡ (cpu_part after.made.end cpu).stack) ×
+            (bound.new ≡ bound_there (cpu_part after.made.end cpu) step.now)) }
 
         // In each state that the zone stood for, the step had its effect.
-        ensures does { Acts (scene self.old.zone pair.old.blocks bound.old) (scene self.new.zone pair.new.blocks bound.new) cpu step.now result (P.exchanges pages.old) (P.exchanges pages.new) }
-        ensures grants { P.grants pages.new + length self.new.zone.chunks ≡ P.grants pages.old + length self.old.zone.chunks }
-        ensures params { P.params pages.new ≡ P.params pages.old }
-        ensures base { P.base pages.new ≡ P.base pages.old }
+        ensures does { HasEffectInEachState (scene self.old.zone pair.old.blocks bound.old)
+            (scene self.new.zone pair.new.blocks bound.new) cpu step.now result (P.seen pages.old) (P.seen pages.new) }
     {
         let reply = act(&mut self.zone, cpu, pair, bound, step, pages);
         self.visits.push_reserved(Visit {
@@ -133,11 +129,14 @@ impl Book {
     pub fn settle(&mut self, round: u32, cpu: u32, recent: &RecentSteps)
         requires cpu { cpu < (params_of self.old).cpus }
         requires some { 0 < length recent.now }
-        requires at { (j : Journal) × Keeps self.old j × NeedNone (params_of self.old) (own_of j.made.end cpu) recent.now }
+        requires at { (j : History) × KeepsHistory self.old j ×
+            NeedNone (params_of self.old) (cpu_part j.made.end cpu) recent.now }
         requires room { HasRoom self.old cpu (length recent.now) }
-        ensures visits { self.new ≡ record self.old { visits = self.old.visits ++ settled_of round cpu recent.now ∷ [] } }
-        ensures keeps { (j : Journal) → Keeps self.old j → NeedNone (params_of self.old) (own_of j.made.end cpu) recent.now →
-            (after : Journal) × Keeps self.new after × Settles (params_of self.old) cpu j after recent.now }
+        ensures visits { self.new
+            ≡ record self.old { visits = self.old.visits ++ settled_of round cpu recent.now ∷ [] } }
+        ensures keeps { (j : History) → KeepsHistory self.old j →
+            NeedNone (params_of self.old) (cpu_part j.made.end cpu) recent.now →
+            (after : History) × KeepsHistory self.new after × Settles (params_of self.old) cpu j after recent.now }
     {
         self.visits.push_reserved(Visit {
             round,
@@ -160,7 +159,7 @@ impl Book {
     /// How many chunks the zone has.
     pub fn chunks(&self) -> u32
         ensures chunks { result ≡ length self.now.zone.chunks }
-        ensures kept { IsKept self.now.zone }
+        ensures kept { IsSoundZone self.now.zone }
     {
         self.zone.chunks()
     }

@@ -3,8 +3,8 @@ use Rattle.std.proofs.Common.{◌≡◌, ℕ, suc, ◌+◌, ◌<◌, ◌≤◌, 
 use Rattle.std.specs.List.{position, position_or_len, insert, range_with_len}
 use Rattle.std.proofs.lemmas.List.{map-id}
 use Rattle.std.proofs.lemmas.List.FromFn.{map-range_with_len_more}
-use Rattle.kz_model.specs.Rules.{with_number}
-use Rattle.kz_model.specs.Whole.{times_idle, Rises}
+use Rattle.kz_model.specs.Zone.Rules.{with_number}
+use Rattle.kz_model.specs.Zone.Whole.{times_idle, Rises}
 use Rattle.kz_model.proofs.Counting.{length_within, rises-with_number}
 
 abbrev above : ℕ → ℕ → Bool

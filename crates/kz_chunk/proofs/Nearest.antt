@@ -5,8 +5,8 @@ use Rattle.std.proofs.Math.ListN.{get_or, get_or-eq_default}
 use Rattle.std.proofs.Math.Nat.{mod-eq_of_lt, add-mod_right}
 use Rattle.std.proofs.lemmas.Bool.Decides.{nat_tests}
 use Rattle.std.proofs.lemmas.List.{get_or_default}
-use Rattle.kz_model.specs.Pick.{distance, nearest, element_to_pick}
-use Rattle.kz_model.specs.Whole.{Rises}
+use Rattle.kz_model.specs.Zone.Pick.{distance, nearest, element_to_pick}
+use Rattle.kz_model.specs.Zone.Whole.{Rises}
 use Rattle.kz_chunk.specs.Kept.{without}
 
 -- ---- distances

@@ -5,13 +5,14 @@ use Rattle.std.proofs.Math.Nat.{mul-le-mul_right}
 use Rattle.std.proofs.Math.Seq.{take-append-add}
 use Rattle.std.proofs.lemmas.List.{drop-take, length-drop, length-replicate, length-take-le, replicate-append-replicate, take-take}
 use Rattle.kz_model.specs.declared.record.Geometry.{Geometry}
-use Rattle.kz_model.specs.Rules.{with_number}
-use Rattle.kz_model.specs.Whole.{times_idle, Rises}
+use Rattle.kz_model.specs.Zone.Rules.{with_number}
+use Rattle.kz_model.specs.Zone.Whole.{times_idle, Rises}
 use Rattle.kz_model.proofs.Counting.{length_within, rises-filter, rises-range, rises-with_number}
 use Rattle.kz_frame.proofs.Joins.{length-joined, written_more}
 use Rattle.kz_frame.specs.Frames.{joined, written}
-use Rattle.kz_chunk.specs.Chunk.{Chunk, IsFitShape, IsInside, first_of, with_bytes_at}
-use Rattle.kz_chunk.specs.Kept.{bytes_of, seen, without, IsKept}
+use Rattle.kz_model.specs.Types.Class.{IsFitGeometry}
+use Rattle.kz_chunk.specs.Chunk.{Chunk, IsInside, first_of, with_bytes_at}
+use Rattle.kz_chunk.specs.Kept.{bytes_of, seen, without, IsSoundChunk}
 
 -- ---- places
 
@@ -19,10 +20,10 @@ use Rattle.kz_chunk.specs.Kept.{bytes_of, seen, without, IsKept}
 pub element_ends : (shape : Geometry) (index : ℕ) → index < shape.count → first_of shape index + shape.element ≤ shape.count * shape.element
 element_ends shape index lt = let more : (index + 1) * shape.element ≤ shape.count * shape.element = mul-le-mul_right shape.element (omega arith) in omega arith
 
-pub frames_hold : (shape : Geometry) (mapped : Bool) (idle : List ℕ) (frames : List (List ℕ)) → IsKept shape mapped idle frames → mapped ≡ true → shape.count * shape.element ≤ length (joined frames)
+pub frames_hold : (shape : Geometry) (mapped : Bool) (idle : List ℕ) (frames : List (List ℕ)) → IsSoundChunk shape mapped idle frames → mapped ≡ true → shape.count * shape.element ≤ length (joined frames)
 frames_hold shape mapped idle frames kept is = omega (arith, kept.bytes, kept.pages is, kept.shape.within)
 
-pub bytes_many : (shape : Geometry) (mapped : Bool) (idle : List ℕ) (frames : List (List ℕ)) → IsKept shape mapped idle frames → mapped ≡ true → length (bytes_of shape frames) ≡ shape.count * shape.element
+pub bytes_many : (shape : Geometry) (mapped : Bool) (idle : List ℕ) (frames : List (List ℕ)) → IsSoundChunk shape mapped idle frames → mapped ≡ true → length (bytes_of shape frames) ≡ shape.count * shape.element
 bytes_many shape mapped idle frames kept is = length-take-le (shape.count * shape.element) (joined frames) (frames_hold shape mapped idle frames kept is)
 
 -- ---- reads and writes
@@ -52,13 +53,13 @@ read_is shape index off len frames inside =
     sym (read_within len (first_of shape index + off) (shape.count * shape.element) (joined frames) (omega (arith, inside.within, element_ends shape index inside.element)))
 
 -- frames with bytes written over those of elements
-pub write_is : (shape : Geometry) (at : ℕ) (bytes : List ℕ) (mapped : Bool) (idle : List ℕ) (frames new : List (List ℕ)) → at + length bytes ≤ shape.count * shape.element → IsKept shape mapped idle frames → mapped ≡ true →
+pub write_is : (shape : Geometry) (at : ℕ) (bytes : List ℕ) (mapped : Bool) (idle : List ℕ) (frames new : List (List ℕ)) → at + length bytes ≤ shape.count * shape.element → IsSoundChunk shape mapped idle frames → mapped ≡ true →
     joined new ≡ written at bytes (joined frames) → bytes_of shape new ≡ written at bytes (bytes_of shape frames)
 write_is shape at bytes mapped idle frames new fits kept is over =
     ap (take (shape.count * shape.element)) over ∙ write_within at (shape.count * shape.element) bytes (joined frames) fits (frames_hold shape mapped idle frames kept is)
 
-pub write_keeps : (shape : Geometry) (at : ℕ) (bytes : List ℕ) (mapped : Bool) (idle : List ℕ) (frames new : List (List ℕ)) → at + length bytes ≤ shape.count * shape.element → IsKept shape mapped idle frames → mapped ≡ true →
-    joined new ≡ written at bytes (joined frames) → length new ≡ length frames → IsKept shape mapped idle new
+pub write_keeps : (shape : Geometry) (at : ℕ) (bytes : List ℕ) (mapped : Bool) (idle : List ℕ) (frames new : List (List ℕ)) → at + length bytes ≤ shape.count * shape.element → IsSoundChunk shape mapped idle frames → mapped ≡ true →
+    joined new ≡ written at bytes (joined frames) → length new ≡ length frames → IsSoundChunk shape mapped idle new
 write_keeps shape at bytes mapped idle frames new fits kept is over same = record {
   shape = kept.shape;
   rises = kept.rises;
@@ -71,7 +72,7 @@ write_keeps shape at bytes mapped idle frames new fits kept is over same = recor
 
 -- bytes written at a place that its shape tells
 pub write_seen : (place : Geometry → ℕ) (bytes : Geometry → List ℕ) (shape : Geometry) (base : ℕ) (mapped : Bool) (idle : List ℕ) (frames new : List (List ℕ)) (now : Chunk) →
-    seen shape base mapped idle frames ≡ now → IsKept shape mapped idle frames → now.state.mapped ≡ true → place now.shape + length (bytes now.shape) ≤ now.shape.count * now.shape.element →
+    seen shape base mapped idle frames ≡ now → IsSoundChunk shape mapped idle frames → now.state.mapped ≡ true → place now.shape + length (bytes now.shape) ≤ now.shape.count * now.shape.element →
     joined new ≡ written (place shape) (bytes shape) (joined frames) →
     seen shape base mapped idle new ≡ record now { state = with_bytes_at (place now.shape) (bytes now.shape) now.state }
 write_seen place bytes shape base mapped idle frames new now view kept =
@@ -84,7 +85,7 @@ write_seen place bytes shape base mapped idle frames new now view kept =
 
 -- ---- idle elements
 
-pub taken_keeps : (shape : Geometry) (mapped : Bool) (idle new : List ℕ) (frames : List (List ℕ)) (element : ℕ) → IsKept shape mapped idle frames → mapped ≡ true → new ≡ without element idle → IsKept shape mapped new frames
+pub taken_keeps : (shape : Geometry) (mapped : Bool) (idle new : List ℕ) (frames : List (List ℕ)) (element : ℕ) → IsSoundChunk shape mapped idle frames → mapped ≡ true → new ≡ without element idle → IsSoundChunk shape mapped new frames
 taken_keeps shape mapped idle new frames element kept is left = record {
   shape = kept.shape;
   rises = subst (Rises 0 shape.count) (sym left) (rises-filter (λ j. not (j == element)) 0 shape.count idle kept.rises);
@@ -93,8 +94,8 @@ taken_keeps shape mapped idle new frames element kept is left = record {
   nothing = λ no_more. absurd cc;
 }
 
-pub put_keeps : (shape : Geometry) (mapped : Bool) (idle new : List ℕ) (frames : List (List ℕ)) (element : ℕ) → IsKept shape mapped idle frames → mapped ≡ true → element < shape.count → times_idle element idle ≡ 0 →
-    new ≡ with_number element idle → IsKept shape mapped new frames
+pub put_keeps : (shape : Geometry) (mapped : Bool) (idle new : List ℕ) (frames : List (List ℕ)) (element : ℕ) → IsSoundChunk shape mapped idle frames → mapped ≡ true → element < shape.count → times_idle element idle ≡ 0 →
+    new ≡ with_number element idle → IsSoundChunk shape mapped new frames
 put_keeps shape mapped idle new frames element kept is within away more = record {
   shape = kept.shape;
   rises = subst (Rises 0 shape.count) (sym more) (rises-with_number 0 shape.count element idle (omega arith) within away kept.rises);
@@ -103,7 +104,7 @@ put_keeps shape mapped idle new frames element kept is within away more = record
   nothing = λ no_more. absurd cc;
 }
 
-pub map_keeps : (shape : Geometry) (idle : List ℕ) (frames : List (List ℕ)) → IsFitShape shape → idle ≡ range_with_len 0 shape.count → All (λ frame. length frame ≡ 4096) frames → length frames ≡ shape.pages → IsKept shape true idle frames
+pub map_keeps : (shape : Geometry) (idle : List ℕ) (frames : List (List ℕ)) → IsFitGeometry shape → idle ≡ range_with_len 0 shape.count → All (λ frame. length frame ≡ 4096) frames → length frames ≡ shape.pages → IsSoundChunk shape true idle frames
 map_keeps shape idle frames fit all sizes many = record {
   shape = fit;
   rises = subst (Rises 0 shape.count) (sym all) all_rise;
@@ -115,7 +116,7 @@ map_keeps shape idle frames fit all sizes many = record {
     all_rise : Rises 0 shape.count (range_with_len 0 shape.count)
     all_rise = let none : 0 + shape.count ≡ shape.count = omega arith in subst (λ high. Rises 0 high (range_with_len 0 shape.count)) none (rises-range 0 shape.count)
 
-pub idle_few : (shape : Geometry) (base : ℕ) (mapped : Bool) (idle : List ℕ) (frames : List (List ℕ)) (now : Chunk) → seen shape base mapped idle frames ≡ now → IsKept shape mapped idle frames → length now.state.idle ≤ now.shape.count
+pub idle_few : (shape : Geometry) (base : ℕ) (mapped : Bool) (idle : List ℕ) (frames : List (List ℕ)) (now : Chunk) → seen shape base mapped idle frames ≡ now → IsSoundChunk shape mapped idle frames → length now.state.idle ≤ now.shape.count
 idle_few shape base mapped idle frames now view kept = subst (λ (now : Chunk). length now.state.idle ≤ now.shape.count) view (omega (arith, length_within 0 shape.count idle kept.rises))
 
 -- ---- zeros

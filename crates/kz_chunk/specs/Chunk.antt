@@ -2,8 +2,8 @@
 use Rattle.std.specs.Prelude.{ℕ, ◌+◌, ◌*◌, ◌<◌, ◌≤◌, true, List, take}
 use Rattle.std.specs.List.{range_with_len}
 use Rattle.kz_model.specs.declared.record.Geometry.{Geometry}
-use Rattle.kz_model.specs.Zone.{Chunk as State}
-use Rattle.kz_model.specs.Rules.{with_number, written}
+use Rattle.kz_model.specs.Zone.State.{Chunk as State}
+use Rattle.kz_model.specs.Zone.Rules.{with_number, written}
 use Rattle.kz_frame.specs.Frames.{joined}
 
 -- its shape, its first page in its submap, and its state: whether it is mapped, its idle elements and its bytes
@@ -12,20 +12,15 @@ pub record Chunk : Type 0 where
   pub base : ℕ
   pub state : State
 
--- a shape that chunks may have
-pub record IsFitShape (shape : Geometry) : Type 0 where
-  pub least_element : 16 ≤ shape.element
-  pub most_element : shape.element ≤ 8192
-  pub some_count : 0 < shape.count
-  pub most_count : shape.count ≤ 256
-  pub some_pages : 0 < shape.pages
-  pub most_pages : shape.pages ≤ 8
-  pub within : shape.count * shape.element ≤ 4096 * shape.pages
-
 -- a chunk mapped with these frames: all elements are idle, and the bytes are the frames'
 abbrev pub mapped_with : Geometry → List (List ℕ) → State
 mapped_with shape frames =
-    record { mapped = true; idle = range_with_len 0 shape.count; bytes = take (shape.count * shape.element) (joined frames) }
+    record {
+      mapped = true;
+      idle = range_with_len 0 shape.count;
+      bytes =
+          take (shape.count * shape.element) (joined frames);
+    }
 
 -- where the bytes of an element begin
 abbrev pub first_of : Geometry → ℕ → ℕ

@@ -1,9 +1,10 @@
 //! The chunk.
 ghost use Rattle.std.specs.Prelude.{◌≡◌, ◌+◌, ◌*◌, ◌%◌, ◌<◌, ◌≤◌, [], true, false, length, take, drop, replicate, IfSome, IfNone};
-ghost use Rattle.kz_model.specs.Zone.{no_chunk};
-ghost use Rattle.kz_model.specs.Pick.{element_to_pick, without_idle};
-ghost use Rattle.kz_model.specs.Whole.{Rises, times_idle};
-ghost use Rattle.kz_chunk.specs.Chunk.{IsFitShape, IsInside, mapped_with, first_of, with_idle_element, with_bytes_at};
+ghost use Rattle.kz_model.specs.Zone.State.{no_chunk};
+ghost use Rattle.kz_model.specs.Zone.Pick.{element_to_pick, without_idle};
+ghost use Rattle.kz_model.specs.Zone.Whole.{Rises, times_idle};
+ghost use Rattle.kz_model.specs.Types.Class.{IsFitGeometry};
+ghost use Rattle.kz_chunk.specs.Chunk.{IsInside, mapped_with, first_of, with_idle_element, with_bytes_at};
 
 use crate::bytes::{piece_at, zero_over};
 use crate::idle::{fill, put_in_place, take_nearest};
@@ -25,19 +26,19 @@ pub struct Chunk {
 
 impl Model for Chunk {
     ghost use Rattle.kz_chunk.specs.Chunk.{Chunk as Seen};
-    ghost use Rattle.kz_chunk.specs.Kept.{seen, IsKept};
+    ghost use Rattle.kz_chunk.specs.Kept.{seen, IsSoundChunk};
 
     ghost Value = { Seen };
 
     ghost view = { λ c. seen c.shape c.base c.mapped c.idle.items c.frames };
 
-    ghost invariant = { λ c. IsKept c.shape c.mapped c.idle.items c.frames };
+    ghost invariant = { λ c. IsSoundChunk c.shape c.mapped c.idle.items c.frames };
 }
 
 impl Chunk {
     /// A chunk that is not mapped, and whose first page in its submap is this one.
     pub fn new(shape: Geometry, base: u32) -> Chunk
-        requires { IsFitShape shape }
+        requires { IsFitGeometry shape }
         ensures { result ≡ record { shape = shape; base = base; state = no_chunk } }
     {
         Chunk {
@@ -76,7 +77,8 @@ impl Chunk {
     /// Takes the idle element out that stands first at or after the word's remainder, cyclically.
     pub fn take(&mut self, word: u32) -> Option<u32>
         requires { self.old.state.mapped ≡ true }
-        ensures some { IfSome result (λ i. i ≡ element_to_pick self.old.shape.count (word % self.old.shape.count) self.old.state.idle) }
+        ensures some { IfSome result (λ i. i
+            ≡ element_to_pick self.old.shape.count (word % self.old.shape.count) self.old.state.idle) }
         ensures left { IfSome result (λ i. self.new ≡ record self.old { state = without_idle i self.old.state }) }
         ensures within { IfSome result (λ i. i < self.old.shape.count) }
         ensures there { IfSome result (λ i. 0 < length self.old.state.idle) }
@@ -114,7 +116,10 @@ impl Chunk {
     pub fn write(&mut self, index: u32, off: u32, bytes: &Piece)
         requires mapped { self.old.state.mapped ≡ true }
         requires inside { IsInside self.old.shape index off (length bytes.now) }
-        ensures { self.new ≡ record self.old { state = with_bytes_at (first_of self.old.shape index + off) bytes.now self.old.state } }
+        ensures { self.new ≡ record self.old {
+          state =
+              with_bytes_at (first_of self.old.shape index + off) bytes.now self.old.state;
+        } }
     {
         let at = index * self.shape.element + off;
         write_over(&mut self.frames, at, bytes.as_slice());
@@ -124,7 +129,10 @@ impl Chunk {
     pub fn zero(&mut self, index: u32)
         requires mapped { self.old.state.mapped ≡ true }
         requires within { index < self.old.shape.count }
-        ensures { self.new ≡ record self.old { state = with_bytes_at (first_of self.old.shape index) (replicate self.old.shape.element 0) self.old.state } }
+        ensures { self.new ≡ record self.old {
+          state =
+              with_bytes_at (first_of self.old.shape index) (replicate self.old.shape.element 0) self.old.state;
+        } }
     {
         let element = self.shape.element;
         zero_over(&mut self.frames, index * element, element);
@@ -151,12 +159,14 @@ impl Chunk {
         self.base
     }
 
-    /// What a chunk keeps: its idle elements rise below its count, and it has its elements' bytes while it is mapped, and neither else.
+    /// What a chunk keeps: its idle elements rise below its count, and it has its elements' bytes while it is mapped,
+    /// and neither else.
     pub fn keeps(&self)
-        ensures shape { IsFitShape self.now.shape }
+        ensures shape { IsFitGeometry self.now.shape }
         ensures rises { Rises 0 self.now.shape.count self.now.state.idle }
         ensures unmapped { self.now.state.mapped ≡ false → self.now.state ≡ no_chunk }
-        ensures bytes { self.now.state.mapped ≡ true → length self.now.state.bytes ≡ self.now.shape.count * self.now.shape.element }
+        ensures bytes { self.now.state.mapped ≡ true → length self.now.state.bytes
+            ≡ self.now.shape.count * self.now.shape.element }
     {
         let _shape = self.shape;
     }

@@ -1,9 +1,9 @@
 //! Rising lists of the idle elements of a chunk.
 ghost use Rattle.std.specs.Prelude.{◌≡◌, ℕ, ◌<◌, ◌≤◌, [], length, nat_le, nat_lt};
 ghost use Rattle.std.specs.List.{position, range_with_len};
-ghost use Rattle.kz_model.specs.Pick.{element_to_pick};
-ghost use Rattle.kz_model.specs.Rules.{with_number};
-ghost use Rattle.kz_model.specs.Whole.{Rises};
+ghost use Rattle.kz_model.specs.Zone.Pick.{element_to_pick};
+ghost use Rattle.kz_model.specs.Zone.Rules.{with_number};
+ghost use Rattle.kz_model.specs.Zone.Whole.{Rises};
 ghost use Rattle.kz_chunk.specs.Kept.{without};
 
 use arrayvec::ArrayVec;
@@ -31,7 +31,8 @@ fn first_from(idle: &[u8], start: u32) -> Option<usize>
 /// As the elements rise, it is the first that isn't before the start, else the first of all.
 pub(crate) fn take_nearest(idle: &mut ArrayVec<u8, 256>, start: u32) -> u32
     requires some { 0 < length idle.old.items }
-    ensures nearest { (count : ℕ) → start < count → Rises 0 count idle.old.items → result ≡ element_to_pick count start idle.old.items }
+    ensures nearest { (count : ℕ) → start < count → Rises 0 count idle.old.items → result
+        ≡ element_to_pick count start idle.old.items }
     ensures within { (count : ℕ) → Rises 0 count idle.old.items → result < count }
     ensures rest { (count : ℕ) → Rises 0 count idle.old.items → idle.new.items ≡ without result idle.old.items }
 {

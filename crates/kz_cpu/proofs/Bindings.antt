@@ -5,8 +5,8 @@ use Rattle.std.proofs.Math.Seq.{take-append_seam}
 use Rattle.std.proofs.lemmas.List.{get_or-set_same, get_or-set_other, length-set}
 use Rattle.kz_model.specs.declared.step.Bound.{Bound}
 use Rattle.kz_model.specs.declared.step.Step.{Step}
-use Rattle.kz_model.specs.Rules.{name_of, bound_at}
-use Rattle.kz_model.specs.Zone.{Own, bound_of}
+use Rattle.kz_model.specs.Zone.Rules.{name_of, bound_at}
+use Rattle.kz_model.specs.Zone.State.{CpuPart, bound_of}
 use Rattle.kz_book.specs.Visits.{bound_there, has_name}
 use Rattle.kz_cpu.specs.declared.binding.Binding.{Binding}
 use Rattle.kz_cpu.specs.Cpu.{Cpu, Cache, Has, IsTagged, IsOnZone, IsElsewhere, no_cache, cache_at, binding_at, bound_in}
@@ -87,7 +87,7 @@ bindings_now zone step bound n old seen new size same is =
 -- ---- before the step
 
 -- what the CPU brings to it
-pub brings : (c : Cpu) (zone : ℕ) (step : Step) (own : Own) (k : Cache) (bound : Option Bound) → IsOnZone c zone step → k ≡ cache_at c zone → bound ≡ (if has_name step then bound_by (binding_at c (name_of step)) else None) → Has c zone own →
+pub brings : (c : Cpu) (zone : ℕ) (step : Step) (own : CpuPart) (k : Cache) (bound : Option Bound) → IsOnZone c zone step → k ≡ cache_at c zone → bound ≡ (if has_name step then bound_by (binding_at c (name_of step)) else None) → Has c zone own →
     Brings own step k.pair.blocks bound
 brings c zone step own k bound on is told h = record {
   is_stack = ap (λ (k : Cache). k.pair.blocks) is ∙ h.stack;
@@ -100,7 +100,7 @@ brings c zone step own k bound on is told h = record {
 
 -- ---- after the step
 
-pub has_now : (old new : Cpu) (zone : ℕ) (step : Step) (bound : Option Bound) (own now : Own) → IsOnZone old zone step → new.bindings ≡ rebound zone step bound old.bindings → (cache_at new zone).pair.blocks ≡ now.stack → bound ≡ bound_there now step → OnlyNames step own now →
+pub has_now : (old new : Cpu) (zone : ℕ) (step : Step) (bound : Option Bound) (own now : CpuPart) → IsOnZone old zone step → new.bindings ≡ rebound zone step bound old.bindings → (cache_at new zone).pair.blocks ≡ now.stack → bound ≡ bound_there now step → OnlyNames step own now →
     Has old zone own → Has new zone now
 has_now old new zone step bound own now on bindings stack is only h = record {
   stack = stack;

@@ -2,5 +2,3 @@ pub mod OwnAnswers
 pub mod OnlyItsName
 pub mod Bindings
 pub mod Steps
-pub mod Transit
-pub mod Played

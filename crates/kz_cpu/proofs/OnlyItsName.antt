@@ -7,17 +7,17 @@ use Rattle.kz_model.specs.declared.step.Reply.{Reply}
 use Rattle.kz_model.specs.declared.step.Step.{Step}
 use Rattle.kz_model.specs.declared.step.Step.TheVariants.{Alloc, AllocZero, Free, Give, Take, Read, Write, Flush, Trim}
 use Rattle.kz_model.specs.declared.supply.Answer.{Answer}
-use Rattle.kz_model.specs.Local.{kept, local_action, local_answer}
-use Rattle.kz_model.specs.Rules.{name_of, refused_here, bound_at, refusal, else_refused, denied_by, unchanged, action, effect_of}
-use Rattle.kz_model.specs.Zone.{Shared, Own, bound_of, bind}
+use Rattle.kz_model.specs.Zone.Local.{kept, local_action, local_answer}
+use Rattle.kz_model.specs.Zone.Rules.{name_of, refused_here, bound_at, refusal, else_refused, denied_by, unchanged, action, effect_of}
+use Rattle.kz_model.specs.Zone.State.{Shared, CpuPart, bound_of, bind}
 use Rattle.kz_model.proofs.Names.{bound_of-bind}
 use Rattle.kz_book.specs.Visits.{has_name}
 
 -- the names are bound alike, but for the step's
-pub record OnlyNames (step : Step) (old new : Own) : Type 0 where
+pub record OnlyNames (step : Step) (old new : CpuPart) : Type 0 where
   pub others : (name : ℕ) → (has_name step ≡ true → name ≢ name_of step) → bound_of name new.names ≡ bound_of name old.names
 
-none_bound : (step : Step) (own : Own) → OnlyNames step own own
+none_bound : (step : Step) (own : CpuPart) → OnlyNames step own own
 none_bound step own = record { others = λ name ne. refl }
 
 bound_other : (name other : ℕ) (bound : Bound) (names : List (ℕ × Bound)) → other ≢ name → bound_of other (bind name bound names) ≡ bound_of other names
@@ -25,7 +25,7 @@ bound_other name other bound names ne =
     let differs : (other == name) ≡ false = grind arith in
     bound_of-bind other name bound names ∙ ap (λ b. if b then Some bound else bound_of other names) differs
 
-pub only_local : (p : ZoneParams) (own : Own) (step : Step) → OnlyNames step own (local_answer p own step).own
+pub only_local : (p : ZoneParams) (own : CpuPart) (step : Step) → OnlyNames step own (local_answer p own step).own
 only_local p own step =
     elim (refused_here p (bound_at own step) step) as (λ (o : Option Reply). OnlyNames step own (option_map_or (λ reply. kept reply own) o (local_action own step)).own) [
       | Some r ↦ none_bound step own
@@ -43,7 +43,7 @@ only_local p own step =
     by_kind Flush = none_bound Flush own
     by_kind Trim = none_bound Trim own
 
-pub only_effect : (p : ZoneParams) (s : Shared) (cpu : ℕ) (own : Own) (step : Step) (answers : List Answer) → OnlyNames step own (effect_of p s cpu own step answers).own
+pub only_effect : (p : ZoneParams) (s : Shared) (cpu : ℕ) (own : CpuPart) (step : Step) (answers : List Answer) → OnlyNames step own (effect_of p s cpu own step answers).own
 only_effect p s cpu own step answers =
     elim (else_refused (refusal p s cpu own step) (denied_by answers)) as (λ (o : Option Reply). OnlyNames step own (option_map_or (λ reply. unchanged reply s own) o (action p s cpu own step)).own) [
       | Some r ↦ none_bound step own

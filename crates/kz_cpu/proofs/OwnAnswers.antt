@@ -8,9 +8,9 @@ use Rattle.kz_model.specs.declared.step.Reply.{Reply}
 use Rattle.kz_model.specs.declared.step.Reply.TheVariants as reply
 use Rattle.kz_model.specs.declared.step.Step.{Step}
 use Rattle.kz_model.specs.declared.step.Step.TheVariants.{Alloc, AllocZero, Free, Give, Take, Read, Write, Flush, Trim}
-use Rattle.kz_model.specs.Local.{Local, kept, local_action, local_answer}
-use Rattle.kz_model.specs.Rules.{newest, below_newest, needs_visit, is_served_by, refused_here, bound_at, block_of}
-use Rattle.kz_model.specs.Zone.{Own, bound_of, bind}
+use Rattle.kz_model.specs.Zone.Local.{Local, kept, local_action, local_answer}
+use Rattle.kz_model.specs.Zone.Rules.{newest, below_newest, needs_visit, is_served_by, refused_here, bound_at, block_of}
+use Rattle.kz_model.specs.Zone.State.{CpuPart, bound_of, bind}
 use Rattle.kz_book.proofs.Effects.{bound_last}
 use Rattle.kz_book.specs.Visits.{bound_there}
 use Rattle.kz_cpu.specs.declared.own_reply.OwnReply.{OwnReply}
@@ -18,7 +18,7 @@ use Rattle.kz_cpu.specs.Local.{Brings, IsAnswer}
 use Rattle.kz_cpu.specs.OwnReply.{reply_meant}
 
 -- a step without a name is refused by nothing that its CPU has
-pub here_same : (p : ZoneParams) (own : Own) (step : Step) → refused_here p (bound_at own step) step ≡ refused_here p (bound_there own step) step
+pub here_same : (p : ZoneParams) (own : CpuPart) (step : Step) → refused_here p (bound_at own step) step ≡ refused_here p (bound_there own step) step
 here_same p own (Alloc name) = refl
 here_same p own (AllocZero name) = refl
 here_same p own (Free name asked) = refl
@@ -29,17 +29,17 @@ here_same p own (Write name off bytes) = refl
 here_same p own Flush = refl
 here_same p own Trim = refl
 
-pub here_of : (p : ZoneParams) (own : Own) (step : Step) (stack : List Block) (bound : Option Bound) → Brings own step stack bound → refused_here p (bound_at own step) step ≡ refused_here p bound step
+pub here_of : (p : ZoneParams) (own : CpuPart) (step : Step) (stack : List Block) (bound : Option Bound) → Brings own step stack bound → refused_here p (bound_at own step) step ≡ refused_here p bound step
 here_of p own step stack bound b = here_same p own step ∙ ap (λ o. refused_here p o step) (sym b.is_bound)
 
 -- whether a step needs a visit, by its stack and binding
-pub needs_by : (p : ZoneParams) (own : Own) (step : Step) (stack : List Block) (bound : Option Bound) → Brings own step stack bound → needs_visit p own step ≡ is_none (refused_here p bound step) && not (is_served_by p stack step)
+pub needs_by : (p : ZoneParams) (own : CpuPart) (step : Step) (stack : List Block) (bound : Option Bound) → Brings own step stack bound → needs_visit p own step ≡ is_none (refused_here p bound step) && not (is_served_by p stack step)
 needs_by p own step stack bound b =
     ap (λ (r : Option Reply). is_none r && not (is_served_by p own.stack step)) (here_of p own step stack bound b)
     ∙ ap (λ (blocks : List Block). is_none (refused_here p bound step) && not (is_served_by p blocks step)) (sym b.is_stack)
 
 -- the answer that the stack gives
-pub record Serves (own : Own) (step : Step) (served : Bool) (result : Option Reply) (left : List Block) (now : Option Bound) : Type 0 where
+pub record Serves (own : CpuPart) (step : Step) (served : Bool) (result : Option Reply) (left : List Block) (now : Option Bound) : Type 0 where
   pub some : is_some result ≡ served
   pub reply : IfSome result (λ reply. reply ≡ (local_action own step).reply)
   pub stack : IfSome result (λ reply. left ≡ (local_action own step).own.stack)
@@ -49,7 +49,7 @@ none_not : (result : Option Reply) → is_none result ≡ not (is_some result)
 none_not None = refl
 none_not (Some r) = refl
 
-pub answer_served : (p : ZoneParams) (own : Own) (step : Step) (stack left : List Block) (bound now : Option Bound) (result : Option Reply) → refused_here p bound step ≡ None → Brings own step stack bound → Serves own step (is_served_by p stack step) result left now → IsAnswer p own step result left now
+pub answer_served : (p : ZoneParams) (own : CpuPart) (step : Step) (stack left : List Block) (bound now : Option Bound) (result : Option Reply) → refused_here p bound step ≡ None → Brings own step stack bound → Serves own step (is_served_by p stack step) result left now → IsAnswer p own step result left now
 answer_served p own step stack left bound now result here b s =
     let at : local_action own step ≡ local_answer p own step = sym (ap (λ (o : Option Reply). option_map_or (λ reply. kept reply own) o (local_action own step)) (here_of p own step stack bound b ∙ here)) in
     record {
@@ -79,7 +79,7 @@ pub record Allocates (stack left : List Block) (now : Option Bound) (result : Op
   pub rest : IfSome result (λ reply. left ≡ below_newest stack)
   pub bound : IfSome result (λ reply. now ≡ Some (record { block = newest stack; held = true }))
 
-pub serves_alloc : (own : Own) (name : ℕ) (stack left : List Block) (bound now : Option Bound) (result : Option Reply) → Brings own (Alloc name) stack bound → Allocates stack left now result → Serves own (Alloc name) (nat_lt 0 (length stack)) result left now
+pub serves_alloc : (own : CpuPart) (name : ℕ) (stack left : List Block) (bound now : Option Bound) (result : Option Reply) → Brings own (Alloc name) stack bound → Allocates stack left now result → Serves own (Alloc name) (nat_lt 0 (length stack)) result left now
 serves_alloc own name stack left bound now result b a = record {
   some = a.some;
   reply = if_some result _ (λ r. r ≡ reply.Block (newest own.stack)) (λ r e. e ∙ ap (λ (blocks : List Block). reply.Block (newest blocks)) b.is_stack) a.reply;
@@ -95,7 +95,7 @@ pub record Frees (served : Bool) (stack left : List Block) (bound now : Option B
   pub more : IfSome result (λ reply. left ≡ stack ++ block_of bound ∷ [])
   pub binding : IfSome result (λ reply. now ≡ Some (record { block = block_of bound; held = false }))
 
-pub serves_free : (own : Own) (name : ℕ) (asked : Option ℕ) (served : Bool) (stack left : List Block) (bound now : Option Bound) (result : Option Reply) → Brings own (Free name asked) stack bound → Frees served stack left bound now result → Serves own (Free name asked) served result left now
+pub serves_free : (own : CpuPart) (name : ℕ) (asked : Option ℕ) (served : Bool) (stack left : List Block) (bound now : Option Bound) (result : Option Reply) → Brings own (Free name asked) stack bound → Frees served stack left bound now result → Serves own (Free name asked) served result left now
 serves_free own name asked served stack left bound now result b f =
     let block = block_of (bound_of name own.names) in
     record {

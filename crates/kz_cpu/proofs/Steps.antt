@@ -5,12 +5,12 @@ use Rattle.kz_model.specs.declared.record.ZoneParams.{ZoneParams}
 use Rattle.kz_model.specs.declared.step.Bound.{Bound}
 use Rattle.kz_model.specs.declared.step.Reply.{Reply}
 use Rattle.kz_model.specs.declared.step.Step.{Step}
-use Rattle.kz_model.specs.Late.{NeedNone}
-use Rattle.kz_model.specs.Local.{local_answer}
-use Rattle.kz_model.specs.Rules.{name_of, needs_visit}
-use Rattle.kz_model.specs.Zone.{Own, ZoneState, nothing_own, own_of}
+use Rattle.kz_model.specs.Zone.Late.{NeedNone}
+use Rattle.kz_model.specs.Zone.Local.{local_answer}
+use Rattle.kz_model.specs.Zone.Rules.{name_of, needs_visit}
+use Rattle.kz_model.specs.Zone.State.{CpuPart, ZoneState, no_cpu_part, cpu_part}
 use Rattle.kz_supply.specs.Exchange.{Exchange}
-use Rattle.kz_book.specs.Book.{Book, Journal, Keeps, params_of}
+use Rattle.kz_book.specs.Book.{Book, History, KeepsHistory, params_of}
 use Rattle.kz_book.specs.Visits.{Extends, IsAtVisit, bound_there, effect_in, has_name, own_now}
 use Rattle.kz_cpu.specs.Caught.{IsCaughtUp}
 use Rattle.kz_cpu.specs.Cpu.{Cpu, Cache, Has, IsOnZone, no_cache, cache_at, recent_at, binding_at}
@@ -28,18 +28,18 @@ pub record Took (old : Cpu) (zone : ℕ) (step : Step) (k : Cache) (bound : Opti
 pub cache_of : (caches : List Cache) (zone : ℕ) (k : Cache) → zone < length caches → k ≡ slice_index_or caches zone k → k ≡ slice_index_or caches zone no_cache
 cache_of caches zone k lt is = is ∙ get_or_default caches zone k no_cache lt
 
-took_brings : (old : Cpu) (zone : ℕ) (step : Step) (k : Cache) (bound : Option Bound) (own : Own) → Took old zone step k bound → Has old zone own → Brings own step k.pair.blocks bound
+took_brings : (old : Cpu) (zone : ℕ) (step : Step) (k : Cache) (bound : Option Bound) (own : CpuPart) → Took old zone step k bound → Has old zone own → Brings own step k.pair.blocks bound
 took_brings old zone step k bound own t h = brings old zone step own k bound t.on t.is t.told h
 
 -- ---- a step without a visit
 
 -- it needs none; the reply, and what the CPU has then
-pub record IsLocal (old new : Cpu) (zone : ℕ) (step : Step) (reply : Reply) (own : Own) : Type 0 where
+pub record IsLocal (old new : Cpu) (zone : ℕ) (step : Step) (reply : Reply) (own : CpuPart) : Type 0 where
   pub needs : false ≡ needs_visit (cache_at old zone).params own step
   pub is_reply : reply ≡ (local_answer (cache_at old zone).params own step).reply
   pub has : Has new zone (local_answer (cache_at old zone).params own step).own
 
-pub is_local : (old new : Cpu) (zone : ℕ) (step : Step) (k after : Cache) (bound now : Option Bound) (reply : Reply) (own : Own) → Took old zone step k bound → ((own : Own) → Brings own step k.pair.blocks bound → IsAnswer k.params own step (Some reply) after.pair.blocks now) → Changes old new zone step now after →
+pub is_local : (old new : Cpu) (zone : ℕ) (step : Step) (k after : Cache) (bound now : Option Bound) (reply : Reply) (own : CpuPart) → Took old zone step k bound → ((own : CpuPart) → Brings own step k.pair.blocks bound → IsAnswer k.params own step (Some reply) after.pair.blocks now) → Changes old new zone step now after →
     Has old zone own → IsLocal old new zone step reply own
 is_local old new zone step k after bound now reply own t answers ch h =
     let p = (cache_at old zone).params in
@@ -53,17 +53,17 @@ is_local old new zone step k after bound now reply own t answers ch h =
 -- ---- a visit
 
 -- two parts of which the CPU has the same need a visit alike
-needs_alike : (p : ZoneParams) (old : Cpu) (zone : ℕ) (step : Step) (k : Cache) (bound : Option Bound) (own other : Own) → Took old zone step k bound → Has old zone own → Has old zone other → needs_visit p own step ≡ needs_visit p other step
+needs_alike : (p : ZoneParams) (old : Cpu) (zone : ℕ) (step : Step) (k : Cache) (bound : Option Bound) (own other : CpuPart) → Took old zone step k bound → Has old zone own → Has old zone other → needs_visit p own step ≡ needs_visit p other step
 needs_alike p old zone step k bound own other t h g =
     needs_by p own step k.pair.blocks bound (took_brings old zone step k bound own t h) ∙ sym (needs_by p other step k.pair.blocks bound (took_brings old zone step k bound other t g))
 
 -- a CPU that is caught up is at its visit
-pub at_visit : (old : Cpu) (zone : ℕ) (step : Step) (k : Cache) (bound : Option Bound) (p : ZoneParams) (j known : Journal) → Took old zone step k bound → p ≡ (cache_at old zone).params → IsCaughtUp old zone known → needs_visit p (own_now p known old.cpu (recent_at old zone)) step ≡ true →
+pub at_visit : (old : Cpu) (zone : ℕ) (step : Step) (k : Cache) (bound : Option Bound) (p : ZoneParams) (j known : History) → Took old zone step k bound → p ≡ (cache_at old zone).params → IsCaughtUp old zone known → needs_visit p (own_now p known old.cpu (recent_at old zone)) step ≡ true →
     IsCaughtUp old zone j → IsAtVisit p j old.cpu (recent_at old zone) k.pair.blocks bound step
 at_visit old zone step k bound p j known t same caught needs h =
     let recent = recent_at old zone in
-    let F : ZoneParams → Type 0 = λ q. NeedNone q (own_of j.made.end old.cpu) recent in
-    let G : Journal → ZoneParams → Type 0 = λ i q. Has old zone (own_now q i old.cpu recent) in
+    let F : ZoneParams → Type 0 = λ q. NeedNone q (cpu_part j.made.end old.cpu) recent in
+    let G : History → ZoneParams → Type 0 = λ i q. Has old zone (own_now q i old.cpu recent) in
     let mine : Has old zone (own_now p j old.cpu recent) = subst (λ q. G j q) (sym same) h.has in
     let theirs : Has old zone (own_now p known old.cpu recent) = subst (λ q. G known q) (sym same) caught.has in
     let b = took_brings old zone step k bound (own_now p j old.cpu recent) t mine in
@@ -80,22 +80,22 @@ pub record IsVisited (old new : Cpu) (zone : ℕ) (step : Step) (after : Cache) 
   pub recent : after.recent ≡ []
 
 -- it is caught up with the history that has the visit
-pub caught_up : (old new : Cpu) (zone : ℕ) (step : Step) (k after : Cache) (bound now : Option Bound) (book : Book) (j next : Journal) (reply : Reply) (exchanges : List Exchange) → Took old zone step k bound → params_of book ≡ (cache_at old zone).params → old.cpu < (params_of book).cpus → Keeps book j → IsCaughtUp old zone j →
-    Extends (params_of book) old.cpu j next (recent_at old zone) step reply exchanges → IsVisited old new zone step after now → after.pair.blocks ≡ (own_of next.made.end old.cpu).stack → now ≡ bound_there (own_of next.made.end old.cpu) step → IsCaughtUp new zone next
+pub caught_up : (old new : Cpu) (zone : ℕ) (step : Step) (k after : Cache) (bound now : Option Bound) (book : Book) (j next : History) (reply : Reply) (exchanges : List Exchange) → Took old zone step k bound → params_of book ≡ (cache_at old zone).params → old.cpu < (params_of book).cpus → KeepsHistory book j → IsCaughtUp old zone j →
+    Extends (params_of book) old.cpu j next (recent_at old zone) step reply exchanges → IsVisited old new zone step after now → after.pair.blocks ≡ (cpu_part next.made.end old.cpu).stack → now ≡ bound_there (cpu_part next.made.end old.cpu) step → IsCaughtUp new zone next
 caught_up old new zone step k after bound now book j next reply exchanges t same lt keeps h x v stack is =
     let p = params_of book in
     let recent = recent_at old zone in
     let own = own_now p j old.cpu recent in
     let e = effect_in p j old.cpu recent step exchanges in
     let within : old.cpu < length j.made.end.own = omega (arith, keeps.whole.cpus) in
-    let mine : own_of next.made.end old.cpu ≡ e.own = ap (λ (st : ZoneState). own_of st old.cpu) x.end ∙ get_or-set_same j.made.end.own old.cpu e.own nothing_own within in
+    let mine : cpu_part next.made.end old.cpu ≡ e.own = ap (λ (st : ZoneState). cpu_part st old.cpu) x.end ∙ get_or-set_same j.made.end.own old.cpu e.own no_cpu_part within in
     let has : Has old zone own = subst (λ (q : ZoneParams). Has old zone (own_now q j old.cpu recent)) (sym same) h.has in
     let here = cache_now old new zone step now after t.on.zone_there v.changes in
     let none : recent_at new zone ≡ [] = ap (λ (c : Cache). c.recent) here ∙ v.recent in
-    let later : Has new zone e.own = has_now old new zone step now own e.own t.on v.changes.bindings (ap (λ (c : Cache). c.pair.blocks) here ∙ stack ∙ ap (λ (o : Own). o.stack) mine) (is ∙ ap (λ (o : Own). bound_there o step) mine)
+    let later : Has new zone e.own = has_now old new zone step now own e.own t.on v.changes.bindings (ap (λ (c : Cache). c.pair.blocks) here ∙ stack ∙ ap (λ (o : CpuPart). o.stack) mine) (is ∙ ap (λ (o : CpuPart). bound_there o step) mine)
     (only_effect p j.made.end.shared old.cpu own step _) has in
-    let there : Has new zone (own_of next.made.end new.cpu) = subst (λ (o : Own). Has new zone o) (sym (ap (λ n. own_of next.made.end n) v.changes.cpu ∙ mine)) later in
+    let there : Has new zone (cpu_part next.made.end new.cpu) = subst (λ (o : CpuPart). Has new zone o) (sym (ap (λ n. cpu_part next.made.end n) v.changes.cpu ∙ mine)) later in
     record {
-      none = subst (λ (steps : List Step). NeedNone (cache_at new zone).params (own_of next.made.end new.cpu) steps) (sym none) tt;
+      none = subst (λ (steps : List Step). NeedNone (cache_at new zone).params (cpu_part next.made.end new.cpu) steps) (sym none) tt;
       has = subst (λ (steps : List Step). Has new zone (own_now (cache_at new zone).params next new.cpu steps)) (sym none) there;
     }

@@ -5,13 +5,14 @@ use Rattle.kz_model.specs.declared.record.Room.{Room}
 use Rattle.kz_model.specs.declared.record.ZoneParams.{ZoneParams}
 use Rattle.kz_model.specs.declared.step.Bound.{Bound}
 use Rattle.kz_model.specs.declared.step.Step.{Step}
-use Rattle.kz_model.specs.Zone.{Own, bound_of}
-use Rattle.kz_model.specs.Rules.{name_of}
+use Rattle.kz_model.specs.Zone.State.{CpuPart, bound_of}
+use Rattle.kz_model.specs.Zone.Rules.{name_of}
 use Rattle.kz_zone.specs.Pair.{Pair}
 use Rattle.kz_book.specs.Visits.{has_name}
 use Rattle.kz_cpu.specs.declared.binding.Binding.{Binding}
 
--- what it keeps of one zone: the zone's parameters, for how many steps and chunks there is room, its stack, its steps since its last visit, and the first pages of the chunks that it knows
+-- what it keeps of one zone: the zone's parameters, for how many steps and chunks there is room, its stack, its steps
+-- since its last visit, and the first pages of the chunks that it knows
 pub record Cache : Type 0 where
   pub params : ZoneParams
   pub most_steps : ℕ
@@ -27,10 +28,29 @@ pub record Cpu : Type 0 where
   pub bindings : List (Option Binding)
 
 abbrev pub no_params : ZoneParams
-no_params = record { zone = 0; element = 0; count = 0; pages = 0; cpus = 0; magazine = 0; depot = 0; seed = Plain; submap = 0 }
+no_params = record {
+  zone = 0;
+  element = 0;
+  count = 0;
+  pages = 0;
+  cpus = 0;
+  magazine = 0;
+  depot = 0;
+  seed =
+      Plain;
+  submap = 0;
+}
 
 abbrev pub no_cache : Cache
-no_cache = record { params = no_params; most_steps = 0; most_chunks = 0; pair = record { magazine = 0; blocks = [] }; recent = []; bases = [] }
+no_cache = record {
+  params = no_params;
+  most_steps = 0;
+  most_chunks = 0;
+  pair =
+      record { magazine = 0; blocks = [] };
+  recent = [];
+  bases = [];
+}
 
 abbrev pub cache_at : Cpu → ℕ → Cache
 cache_at c zone = slice_index_or c.caches zone no_cache
@@ -44,10 +64,19 @@ binding_at c name = slice_index_or c.bindings name None
 -- what a zone's room opens
 abbrev pub opened_cache : ℕ → Room → Cache
 opened_cache cpu room =
-    record { params = room.params; most_steps = slice_index_or room.steps cpu 0; most_chunks = room.chunks; pair = record { magazine = room.params.magazine; blocks = [] }; recent = []; bases = [] }
+    record {
+      params = room.params;
+      most_steps = slice_index_or room.steps cpu 0;
+      most_chunks = room.chunks;
+      pair =
+          record { magazine = room.params.magazine; blocks = [] };
+      recent = [];
+      bases = [];
+    }
 
 abbrev pub opened_cpu : ℕ → List Room → ℕ → Cpu
-opened_cpu cpu rooms names = record { cpu = cpu; caches = map (opened_cache cpu) rooms; bindings = replicate names None }
+opened_cpu cpu rooms names =
+    record { cpu = cpu; caches = map (opened_cache cpu) rooms; bindings = replicate names None }
 
 -- ---- what it has of a zone
 
@@ -57,7 +86,7 @@ bound_in zone None = None
 bound_in zone (Some binding) = if binding.zone == zone then Some binding.bound else None
 
 -- The CPU has this stack and these names of the zone.
-pub record Has (c : Cpu) (zone : ℕ) (own : Own) : Type 0 where
+pub record Has (c : Cpu) (zone : ℕ) (own : CpuPart) : Type 0 where
   pub stack : (cache_at c zone).pair.blocks ≡ own.stack
   pub names : (name : ℕ) → name < length c.bindings → bound_in zone (binding_at c name) ≡ bound_of name own.names
 
@@ -81,8 +110,9 @@ pub record IsElsewhere (old new : Cpu) (zone : ℕ) (step : Step) : Type 0 where
   pub most_steps : (cache_at new zone).most_steps ≡ (cache_at old zone).most_steps
   pub magazine : (cache_at new zone).pair.magazine ≡ (cache_at old zone).pair.magazine
   pub others : (other : ℕ) → other ≢ zone → cache_at new other ≡ cache_at old other
-  pub has : (other : ℕ) (own : Own) → other ≢ zone → Has old other own → Has new other own
-  pub tags : (name other : ℕ) → (has_name step ≡ true → name ≡ name_of step → other ≡ zone) → IsTagged other (binding_at old name) → IsTagged other (binding_at new name)
+  pub has : (other : ℕ) (own : CpuPart) → other ≢ zone → Has old other own → Has new other own
+  pub tags : (name other : ℕ) → (has_name step ≡ true → name ≡ name_of step → other ≡ zone) →
+      IsTagged other (binding_at old name) → IsTagged other (binding_at new name)
 
 -- ---- what a visit tells it
 

@@ -3,4 +3,3 @@ pub mod Cpu
 pub mod Caught
 pub mod Local
 pub mod Cache
-pub mod Playing

@@ -5,19 +5,20 @@ use Rattle.kz_model.specs.declared.step.Block.{Block}
 use Rattle.kz_model.specs.declared.step.Bound.{Bound}
 use Rattle.kz_model.specs.declared.step.Reply.{Reply}
 use Rattle.kz_model.specs.declared.step.Step.{Step}
-use Rattle.kz_model.specs.Local.{local_answer}
-use Rattle.kz_model.specs.Rules.{name_of, needs_visit}
-use Rattle.kz_model.specs.Zone.{Own}
+use Rattle.kz_model.specs.Zone.Local.{local_answer}
+use Rattle.kz_model.specs.Zone.Rules.{name_of, needs_visit}
+use Rattle.kz_model.specs.Zone.State.{CpuPart}
 use Rattle.kz_book.specs.Visits.{bound_there, has_name}
 use Rattle.kz_cpu.specs.declared.binding.Binding.{Binding}
 
 -- A CPU with this part has this stack, and this is what the step's name is bound to.
-pub record Brings (own : Own) (step : Step) (stack : List Block) (bound : Option Bound) : Type 0 where
+pub record Brings (own : CpuPart) (step : Step) (stack : List Block) (bound : Option Bound) : Type 0 where
   pub is_stack : stack ≡ own.stack
   pub is_bound : bound ≡ bound_there own step
 
 -- No answer where the step needs a visit, else the CPU's own, which leaves this stack and this binding.
-pub record IsAnswer (p : ZoneParams) (own : Own) (step : Step) (result : Option Reply) (left : List Block) (now : Option Bound) : Type 0 where
+pub record IsAnswer (p : ZoneParams) (own : CpuPart) (step : Step) (result : Option Reply) (left : List Block)
+    (now : Option Bound) : Type 0 where
   pub needs : is_none result ≡ needs_visit p own step
   pub reply : IfSome result (λ reply. reply ≡ (local_answer p own step).reply)
   pub stack : IfSome result (λ reply. left ≡ (local_answer p own step).own.stack)
@@ -40,4 +41,5 @@ tagged zone (Some bound) = Some (record { bound = bound; zone = zone })
 
 -- the bindings after a step on a zone
 abbrev pub rebound : ℕ → Step → Option Bound → List (Option Binding) → List (Option Binding)
-rebound zone step bound bindings = if has_name step then slice_set bindings (name_of step) (tagged zone bound) else bindings
+rebound zone step bound bindings = if has_name step then slice_set bindings (name_of step) (tagged zone bound)
+    else bindings

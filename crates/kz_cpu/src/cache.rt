@@ -1,9 +1,9 @@
 //! What a CPU keeps of one zone.
 ghost use Rattle.std.specs.Prelude.{ℕ, ◌≡◌, ◌+◌, ◌*◌, ◌<◌, ◌≤◌, ◌++◌, [], ◌∷◌, true, false, length, nat_lt, take, drop, Some, is_some, IfOk, IfSome, IfNone, is_none, vec_len, vec_capacity};
 ghost use Rattle.std.specs.Option.{option_map};
-ghost use Rattle.kz_model.specs.Rules.{newest, below_newest, block_of};
-ghost use Rattle.kz_model.specs.Zone.{Own};
-ghost use Rattle.kz_zone.specs.Room.{IsFit};
+ghost use Rattle.kz_model.specs.Zone.Rules.{newest, below_newest, block_of};
+ghost use Rattle.kz_model.specs.Zone.State.{CpuPart};
+ghost use Rattle.kz_zone.specs.Room.{IsFitRoom};
 ghost use Rattle.kz_cpu.specs.Cpu.{opened_cache, IsTagged};
 ghost use Rattle.kz_cpu.specs.OwnReply.{reply_meant};
 ghost use Rattle.kz_cpu.specs.Local.{Brings, IsAnswer, bound_by};
@@ -37,9 +37,18 @@ impl Model for Cache {
 
     ghost Value = { Seen };
 
-    ghost view = { λ k. record { params = k.params; most_steps = k.most_steps; most_chunks = k.most_chunks; pair = k.pair; recent = k.recent; bases = k.bases.items } };
+    ghost view = { λ k. record {
+      params = k.params;
+      most_steps = k.most_steps;
+      most_chunks = k.most_chunks;
+      pair =
+          k.pair;
+      recent = k.recent;
+      bases = k.bases.items;
+    } };
 
-    ghost invariant = { λ k. IsRoomy k.pair.magazine k.params.magazine k.most_chunks (vec_len k.bases) (vec_capacity k.bases) };
+    ghost invariant = { λ k. IsRoomy k.pair.magazine k.params.magazine k.most_chunks (vec_len k.bases)
+        (vec_capacity k.bases) };
 }
 
 /// Takes the newest block of a stack for a name, if there is one.
@@ -47,7 +56,8 @@ fn allocate(pair: &mut Pair, zone: u32, binding: &mut Option<Binding>) -> Option
     ensures some { is_some result ≡ nat_lt 0 (length pair.old.blocks) }
     ensures reply { IfSome result (λ reply. reply ≡ OwnReply.Block (newest pair.old.blocks)) }
     ensures stack { IfSome result (λ reply. pair.new ≡ record pair.old { blocks = below_newest pair.old.blocks }) }
-    ensures bound { IfSome result (λ reply. bound_by binding.new ≡ Some (record { block = newest pair.old.blocks; held = true })) }
+    ensures bound { IfSome result (λ reply. bound_by binding.new
+        ≡ Some (record { block = newest pair.old.blocks; held = true })) }
     ensures tagged { IfSome result (λ reply. IsTagged zone binding.new) }
     ensures none { IfNone result ((pair.new ≡ pair.old) × (binding.new ≡ binding.old)) }
 {
@@ -64,8 +74,10 @@ fn free(pair: &mut Pair, magazine: u32, binding: &mut Option<Binding>) -> Option
     requires few { magazine ≤ 32 }
     ensures some { is_some result ≡ nat_lt (length pair.old.blocks) (2 * magazine) }
     ensures reply { IfSome result (λ reply. reply ≡ OwnReply.Done) }
-    ensures stack { IfSome result (λ reply. pair.new ≡ record pair.old { blocks = pair.old.blocks ++ block_of (bound_by binding.old) ∷ [] }) }
-    ensures bound { IfSome result (λ reply. bound_by binding.new ≡ Some (record { block = block_of (bound_by binding.old); held = false })) }
+    ensures stack { IfSome result (λ reply. pair.new
+        ≡ record pair.old { blocks = pair.old.blocks ++ block_of (bound_by binding.old) ∷ [] }) }
+    ensures bound { IfSome result (λ reply. bound_by binding.new
+        ≡ Some (record { block = block_of (bound_by binding.old); held = false })) }
     ensures tagged { (zone : ℕ) → IsTagged zone binding.old → IsTagged zone binding.new }
     ensures none { IfNone result ((pair.new ≡ pair.old) × (binding.new ≡ binding.old)) }
 {
@@ -92,7 +104,8 @@ fn answer(
 ) -> Option<OwnReply>
     requires same_magazine { pair.old.magazine ≡ params.now.magazine }
     requires few { params.now.magazine ≤ 32 }
-    ensures answers { (own : Own) → Brings own step.now pair.old.blocks (bound_by binding.old) → IsAnswer params.now own step.now (option_map reply_meant result) pair.new.blocks (bound_by binding.new) }
+    ensures answers { (own : CpuPart) → Brings own step.now pair.old.blocks (bound_by binding.old) →
+        IsAnswer params.now own step.now (option_map reply_meant result) pair.new.blocks (bound_by binding.new) }
     ensures none { IfNone result ((pair.new ≡ pair.old) × (binding.new ≡ binding.old)) }
     ensures tagged { IsTagged zone binding.old → IsTagged zone binding.new }
     ensures magazine { pair.new.magazine ≡ pair.old.magazine }
@@ -111,7 +124,8 @@ fn answer(
 pub fn learn(bases: &mut Vec<u32>, most_chunks: u32, book: &Book)
     requires few { vec_len bases.old ≤ most_chunks }
     requires room { most_chunks ≤ vec_capacity bases.old }
-    ensures bases { bases.new.items ≡ bases.old.items ++ drop (length bases.old.items) (take most_chunks book.now.zone.bases) }
+    ensures bases { bases.new.items
+        ≡ bases.old.items ++ drop (length bases.old.items) (take most_chunks book.now.zone.bases) }
     ensures few { vec_len bases.new ≤ most_chunks }
     ensures capacity { most_chunks ≤ vec_capacity bases.new }
 {
@@ -124,7 +138,7 @@ pub fn learn(bases: &mut Vec<u32>, most_chunks: u32, book: &Book)
 impl Cache {
     /// What a CPU has of a zone that no CPU has visited.
     pub fn new(alloc: Global, cpu: u32, room: &Room) -> Result<Cache, AllocError>
-        requires fit { IsFit room.now }
+        requires fit { IsFitRoom room.now }
         requires cpu { cpu < room.now.params.cpus }
         ensures { IfOk result (λ cache. cache ≡ opened_cache cpu room.now) }
     {
@@ -147,11 +161,14 @@ impl Cache {
         step: &Step,
     ) -> Option<OwnReply>
         requires { length self.old.recent < self.old.most_steps }
-        ensures answers { (own : Own) → Brings own step.now self.old.pair.blocks (bound_by binding.old) → IsAnswer self.old.params own step.now (option_map reply_meant result) self.new.pair.blocks (bound_by binding.new) }
+        ensures answers { (own : CpuPart) → Brings own step.now self.old.pair.blocks (bound_by binding.old) →
+            IsAnswer self.old.params own step.now (option_map reply_meant result) self.new.pair.blocks
+            (bound_by binding.new) }
         ensures none { IfNone result ((self.new ≡ self.old) × (binding.new ≡ binding.old)) }
         ensures tagged { IsTagged zone binding.old → IsTagged zone binding.new }
         ensures magazine { self.new.pair.magazine ≡ self.old.pair.magazine }
-        ensures kept { IfSome result (λ reply. self.new ≡ record self.old { pair = self.new.pair; recent = self.old.recent ++ step.now ∷ [] }) }
+        ensures kept { IfSome result (λ reply. self.new
+            ≡ record self.old { pair = self.new.pair; recent = self.old.recent ++ step.now ∷ [] }) }
     {
         let reply = answer(&self.params, &mut self.pair, zone, binding, step)?;
         self.recent.push(step);

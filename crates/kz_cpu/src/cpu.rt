@@ -1,15 +1,13 @@
 //! The CPU.
 ghost use Rattle.std.specs.Prelude.{◌≡◌, ◌+◌, ◌<◌, ◌≤◌, ◌++◌, [], ◌∷◌, List, true, nat_lt, length, map, All, IfOk, IfSome, IfNone, None, is_none, if◌then◌else◌, slice_index_or};
-ghost use Rattle.std.specs.List.{count_by, filter_map};
-ghost use Rattle.kz_model.specs.Zone.{Own};
-ghost use Rattle.kz_model.specs.Local.{local_answer};
-ghost use Rattle.kz_model.specs.Report.{page_of};
-ghost use Rattle.kz_model.specs.Rules.{needs_visit, name_of as step_name};
-ghost use Rattle.kz_supply.specs.Exchange.{Exchange, answer_of};
-ghost use Rattle.kz_zone.specs.Growth.{CanAnswer, HasPlace};
-ghost use Rattle.kz_zone.specs.Room.{IsFit};
-ghost use Rattle.kz_book.specs.Book.{Journal, Keeps, HasRoom, params_of};
-ghost use Rattle.kz_book.specs.Visits.{Extends, Settles, has_name, own_now, visit_of, settled_of, want_at, gives, trims, ReadsFew};
+ghost use Rattle.kz_model.specs.Zone.State.{CpuPart};
+ghost use Rattle.kz_model.specs.Zone.Local.{local_answer};
+ghost use Rattle.kz_model.specs.Zone.Rules.{needs_visit, name_of as step_name};
+ghost use Rattle.kz_supply.specs.Exchange.{Exchange};
+ghost use Rattle.kz_zone.specs.Growth.{CanServe, chunks_of};
+ghost use Rattle.kz_zone.specs.Room.{IsFitRoom};
+ghost use Rattle.kz_book.specs.Book.{History, KeepsHistory, HasRoom, HasSameRoom, params_of};
+ghost use Rattle.kz_book.specs.Visits.{CanTakeStep, HasUsed, Extends, Settles, has_name, own_now, visit_of, settled_of, want_at, backs_at};
 ghost use Rattle.kz_cpu.specs.Cpu.{Has, IsOnZone, IsElsewhere, KnowsSame, Learns, cache_at, recent_at, opened_cache, opened_cpu};
 ghost use Rattle.kz_cpu.specs.Caught.{IsCaughtUp};
 ghost use Rattle.kz_cpu.specs.Local.{named_by, bound_by, rebound};
@@ -42,7 +40,7 @@ impl Model for Cpu {
 
 /// What the CPU has of each zone before its first step there.
 fn caches_of(alloc: Global, cpu: u32, rooms: &[ZoneRoom]) -> Result<Vec<Cache>, AllocError>
-    requires fit { All IsFit rooms.now }
+    requires fit { All IsFitRoom rooms.now }
     requires cpu { All (λ room. cpu < room.params.cpus) rooms.now }
     ensures { IfOk result (λ caches. caches.items ≡ map (opened_cache cpu) rooms.now) }
 {
@@ -72,7 +70,8 @@ fn name_of(step: &Step) -> Option<u32>
 /// What a step's name is bound to; nothing where it has no name.
 fn bound_by_name(bindings: &[Option<Binding>], step: &Step) -> Option<Bound>
     requires { has_name step.now ≡ true → step_name step.now < length bindings.now }
-    ensures { result ≡ (if has_name step.now then bound_by (slice_index_or bindings.now (step_name step.now) None) else None) }
+    ensures { result ≡ (if has_name step.now then bound_by (slice_index_or bindings.now (step_name step.now) None)
+        else None) }
 {
     let name = name_of(step)?;
     match bindings[name as usize] {
@@ -103,7 +102,7 @@ impl Cpu {
         names: u32,
         _pages: u32,
     ) -> Result<Cpu, AllocError>
-        requires fit { All IsFit rooms.now }
+        requires fit { All IsFitRoom rooms.now }
         requires cpu { All (λ room. cpu < room.params.cpus) rooms.now }
         requires some { 1 ≤ _pages }
         requires few { _pages ≤ 4096 }
@@ -122,12 +121,15 @@ impl Cpu {
         requires room { length (recent_at self.old zone) < (cache_at self.old zone).most_steps }
 
         // None exactly where the step needs a visit; then nothing changes.
-        ensures needs { (own : Own) → Has self.old zone own → is_none result ≡ needs_visit (cache_at self.old zone).params own step.now }
+        ensures needs { (own : CpuPart) → Has self.old zone own → is_none result
+            ≡ needs_visit (cache_at self.old zone).params own step.now }
         ensures none { IfNone result (self.new ≡ self.old) }
 
         // Else the CPU has what the step leaves, and the step joins the recent ones.
-        ensures reply { IfSome result (λ reply. (own : Own) → Has self.old zone own → reply ≡ (local_answer (cache_at self.old zone).params own step.now).reply) }
-        ensures has { IfSome result (λ reply. (own : Own) → Has self.old zone own → Has self.new zone (local_answer (cache_at self.old zone).params own step.now).own) }
+        ensures reply { IfSome result (λ reply. (own : CpuPart) → Has self.old zone own →
+            reply ≡ (local_answer (cache_at self.old zone).params own step.now).reply) }
+        ensures has { IfSome result (λ reply. (own : CpuPart) → Has self.old zone own →
+            Has self.new zone (local_answer (cache_at self.old zone).params own step.now).own) }
         ensures recent { IfSome result (λ reply. recent_at self.new zone ≡ recent_at self.old zone ++ step.now ∷ []) }
         ensures elsewhere { IsElsewhere self.old self.new zone step.now }
         ensures knows { KnowsSame (cache_at self.old zone) (cache_at self.new zone) }
@@ -150,29 +152,28 @@ impl Cpu {
         requires here { IsOnZone self.old zone step.now }
         requires cpu { self.old.cpu < (params_of book.old).cpus }
         requires same_params { params_of book.old ≡ (cache_at self.old zone).params }
-        requires same_magazine { (cache_at self.old zone).pair.magazine ≡ (params_of book.old).magazine }
-        requires at { (j : Journal) × Keeps book.old j × IsCaughtUp self.old zone j × (needs_visit (params_of book.old) (own_now (params_of book.old) j self.old.cpu (recent_at self.old zone)) step.now ≡ true) }
+        requires at { (j : History) × KeepsHistory book.old j × IsCaughtUp self.old zone j ×
+            (needs_visit (params_of book.old) (own_now (params_of book.old) j self.old.cpu (recent_at self.old zone))
+            step.now ≡ true) }
         requires room { HasRoom book.old self.old.cpu (length (recent_at self.old zone) + 1) }
-        requires transit { gives step.now ≡ true → length book.old.zone.transit < book.old.zone.most_gifts }
-        requires reads { ReadsFew step.now }
-        requires same_zone { P.params pages.old ≡ params_of book.old }
-        requires answers { CanAnswer (want_at book.old.zone (cache_at self.old zone).pair.blocks step.now) (P.can_chunk pages.old) (P.can_frames pages.old) }
-        requires few { HasPlace (want_at book.old.zone (cache_at self.old zone).pair.blocks step.now) (P.grants pages.old) (length book.old.zone.chunks) book.old.zone.most_chunks }
-        requires backs { trims step.now ≡ true → count_by (λ chunk. chunk.mapped) book.old.zone.chunks ≤ P.backs pages.old }
+        requires step { CanTakeStep book.old.zone step.now }
+        requires serves { CanServe (P.seen pages.old) (chunks_of book.old.zone)
+            (want_at book.old.zone (cache_at self.old zone).pair.blocks step.now) (backs_at book.old.zone step.now) }
 
-        ensures visits { book.new.visits ≡ book.old.visits ++ visit_of round self.old.cpu (recent_at self.old zone) ∷ [] }
-        ensures room { book.new.room ≡ book.old.room }
-        ensures most_chunks { book.new.zone.most_chunks ≡ book.old.zone.most_chunks }
-        ensures most_gifts { book.new.zone.most_gifts ≡ book.old.zone.most_gifts }
-        ensures keeps { (exchanges : List Exchange) × (P.exchanges pages.new ≡ P.exchanges pages.old ++ exchanges)
-            × (book.new.zone.bases ≡ book.old.zone.bases ++ filter_map page_of (map answer_of exchanges))
-            × ((j : Journal) → Keeps book.old j → IsCaughtUp self.old zone j →
-            (after : Journal) × Keeps book.new after × Extends (params_of book.old) self.old.cpu j after (recent_at self.old zone) step.now result exchanges × IsCaughtUp self.new zone after) }
+        ensures visits { book.new.visits ≡ book.old.visits ++ visit_of round self.old.cpu (recent_at self.old zone)
+            ∷ [] }
+        ensures same { HasSameRoom book.old book.new }
+
+        // The zone asked for what the step asks, and keeps the history with this visit, which the CPU has caught up
+        // with.
+        ensures keeps { (exchanges : List Exchange) ×
+            HasUsed book.old.zone book.new.zone (P.seen pages.old) (P.seen pages.new) exchanges ×
+            ((j : History) → KeepsHistory book.old j → IsCaughtUp self.old zone j →
+            (after : History) × KeepsHistory book.new after ×
+            Extends (params_of book.old) self.old.cpu j after (recent_at self.old zone) step.now result exchanges ×
+            IsCaughtUp self.new zone after) }
         ensures recent { recent_at self.new zone ≡ [] }
         ensures elsewhere { IsElsewhere self.old self.new zone step.now }
-        ensures grants { P.grants pages.new + length book.new.zone.chunks ≡ P.grants pages.old + length book.old.zone.chunks }
-        ensures params { P.params pages.new ≡ P.params pages.old }
-        ensures base { P.base pages.new ≡ P.base pages.old }
         ensures learns { Learns (cache_at self.old zone) (cache_at self.new zone) book.new.zone.bases }
     {
         let mut bound = bound_by_name(&self.bindings, step);
@@ -208,11 +209,17 @@ impl Cpu {
         requires cpu { self.old.cpu < (params_of book.old).cpus }
         requires same_params { params_of book.old ≡ (cache_at self.old zone).params }
         requires some { 0 < length (recent_at self.old zone) }
-        requires at { (j : Journal) × Keeps book.old j × IsCaughtUp self.old zone j }
+        requires at { (j : History) × KeepsHistory book.old j × IsCaughtUp self.old zone j }
         requires room { HasRoom book.old self.old.cpu (length (recent_at self.old zone)) }
-        ensures visits { book.new ≡ record book.old { visits = book.old.visits ++ settled_of round self.old.cpu (recent_at self.old zone) ∷ [] } }
-        ensures keeps { (j : Journal) → Keeps book.old j → IsCaughtUp self.old zone j →
-            (after : Journal) × Keeps book.new after × Settles (params_of book.old) self.old.cpu j after (recent_at self.old zone) × IsCaughtUp self.new zone after }
+        ensures visits { book.new
+            ≡ record book.old {
+              visits = book.old.visits ++ settled_of round self.old.cpu (recent_at self.old zone)
+                  ∷ [];
+            } }
+        ensures keeps { (j : History) → KeepsHistory book.old j → IsCaughtUp self.old zone j →
+            (after : History) × KeepsHistory book.new after ×
+            Settles (params_of book.old) self.old.cpu j after (recent_at self.old zone) ×
+            IsCaughtUp self.new zone after }
         ensures recent { recent_at self.new zone ≡ [] }
         ensures elsewhere { IsElsewhere self.old self.new zone Step.Flush }
         ensures knows { KnowsSame (cache_at self.old zone) (cache_at self.new zone) }

@@ -2,7 +2,7 @@
 ghost use Rattle.std.specs.Prelude.{◌≡◌, ◌+◌, nat_lt, not, is_none};
 ghost use Rattle.std.specs.Option.{option_map};
 ghost use Rattle.kz_model.specs.declared.step.Reply.TheVariants.{NoName, NameBusy, NotHeld, OutOfBlock};
-ghost use Rattle.kz_model.specs.Rules.{is_held as held, other_zone, refused_if, else_refused, refused_here};
+ghost use Rattle.kz_model.specs.Zone.Rules.{is_held as held, other_zone, refused_if, else_refused, refused_here};
 ghost use Rattle.kz_cpu.specs.Local.{bound_by};
 ghost use Rattle.kz_cpu.specs.OwnReply.{reply_meant};
 
@@ -32,7 +32,9 @@ fn busy(binding: &Option<Binding>) -> Option<OwnReply>
 
 /// Where the name has to hold a block of this zone.
 fn not_held(owner: u32, asked: Option<u32>, binding: &Option<Binding>) -> Option<OwnReply>
-    ensures { option_map reply_meant result ≡ else_refused (refused_if (is_none (bound_by binding.now)) NoName) (else_refused (other_zone owner asked) (refused_if (not (held (bound_by binding.now))) NotHeld)) }
+    ensures { option_map reply_meant result
+        ≡ else_refused (refused_if (is_none (bound_by binding.now)) NoName)
+        (else_refused (other_zone owner asked) (refused_if (not (held (bound_by binding.now))) NotHeld)) }
 {
     match (binding, asked) {
         (None, _) => Some(OwnReply::NoName),
@@ -44,7 +46,9 @@ fn not_held(owner: u32, asked: Option<u32>, binding: &Option<Binding>) -> Option
 
 /// Where the name has to have a block, and these bytes have to lie in it.
 fn outside(element: u32, binding: &Option<Binding>, off: u32, len: usize) -> Option<OwnReply>
-    ensures { option_map reply_meant result ≡ else_refused (refused_if (is_none (bound_by binding.now)) NoName) (refused_if (nat_lt element (off + len)) OutOfBlock) }
+    ensures { option_map reply_meant result
+        ≡ else_refused (refused_if (is_none (bound_by binding.now)) NoName)
+        (refused_if (nat_lt element (off + len)) OutOfBlock) }
 {
     if binding.is_none() {
         Some(OwnReply::NoName)

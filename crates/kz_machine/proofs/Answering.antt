@@ -1,24 +1,25 @@
 -- A CPU that is ready finds its ask answered, and room for what it gets.
 use Rattle.std.proofs.Common.{◌≡◌, ◌<◌, ◌≤◌, ℕ, zero, suc, ◌==◌, true, false, if◌then◌else◌, List, [], ◌∷◌, length, Option, None, Some, refl, ap, arith}
+use Rattle.std.specs.List.{count_by}
 use Rattle.std.specs.Option.{is_some}
 use Rattle.kz_model.specs.declared.record.ZoneParams.{ZoneParams}
 use Rattle.kz_model.specs.declared.step.Block.{Block}
 use Rattle.kz_model.specs.declared.step.Step.{Step}
 use Rattle.kz_model.specs.declared.step.Step.TheVariants as kind
-use Rattle.kz_model.specs.Amounts.{mapped_count}
-use Rattle.kz_model.specs.Pick.{unmapped_place}
-use Rattle.kz_model.specs.Rules.{must_grow}
-use Rattle.kz_model.specs.Zone.{Chunk, chunk_at}
+use Rattle.kz_laws.specs.Amounts.{mapped_count}
+use Rattle.kz_model.specs.Zone.Pick.{unmapped_place}
+use Rattle.kz_model.specs.Zone.Rules.{must_grow}
+use Rattle.kz_model.specs.Zone.State.{Chunk, chunk_at}
 use Rattle.kz_supply.specs.declared.pages.Want.{Want}
 use Rattle.kz_supply.specs.declared.pages.Want.TheVariants as want
 use Rattle.kz_supply.specs.ThinSolo.{can_place, can_give}
-use Rattle.kz_supply.specs.Supply.{grants_left}
+use Rattle.kz_supply.specs.Supply.{grants_left, backs_left}
 use Rattle.kz_supply.proofs.Grants.{chunks_begin, frames_begin}
 use Rattle.kz_zone.specs.Growth.{CanAnswer, HasPlace}
 use Rattle.kz_zone.specs.Zone.{Zone, shared_of, want_of}
 use Rattle.kz_zone.proofs.Places.{unmapped_there}
-use Rattle.kz_book.specs.Visits.{want_at}
-use Rattle.kz_machine.specs.Steps.{Side, IsReady, allocates}
+use Rattle.kz_book.specs.Visits.{want_at, backs_at, trims}
+use Rattle.kz_machine.specs.Steps.{Parties, IsReady, allocates}
 use Rattle.kz_machine.proofs.Frames.{mapped_few}
 
 -- with an unmapped chunk, fewer are mapped than there are
@@ -29,7 +30,7 @@ some_unmapped (chunk ∷ chunks) (suc k) lt is =
     let one : (if chunk.mapped then 1 else 0) ≤ 1 = elim chunk.mapped as (λ t. (if t then 1 else 0) ≤ 1) [ true ↦ omega arith | false ↦ omega arith ] in
     omega (arith, one, some_unmapped chunks k (omega arith) is)
 
-module _ (p : ZoneParams) (here : Side) (step : Step) (ready : IsReady p here step) where
+module _ (p : ZoneParams) (here : Parties) (step : Step) (ready : IsReady p here step) where
   abbrev z : Zone
   z = here.book.zone
 
@@ -86,3 +87,17 @@ module _ (p : ZoneParams) (here : Side) (step : Step) (ready : IsReady p here st
 
   pub places_ready : (stack : List Block) → Placed (want_at z stack step)
   places_ready stack = at_step Placed stack tt has_room
+
+  pub backs_ready : backs_at z step ≤ backs_left p.pages here.supply.counted
+  backs_ready =
+      elim step as (λ (step : Step). (trims step ≡ true → count_by (λ chunk. chunk.mapped) z.chunks ≤ backs_left p.pages here.supply.counted) → backs_at z step ≤ backs_left p.pages here.supply.counted) [
+        | kind.Alloc name ↦ λ enough. omega arith
+        | kind.AllocZero name ↦ λ enough. omega arith
+        | kind.Free name of ↦ λ enough. omega arith
+        | kind.Give name to ↦ λ enough. omega arith
+        | kind.Take name ↦ λ enough. omega arith
+        | kind.Read name off len ↦ λ enough. omega arith
+        | kind.Write name off bytes ↦ λ enough. omega arith
+        | kind.Flush ↦ λ enough. omega arith
+        | kind.Trim ↦ λ enough. enough refl
+      ] ready.backs

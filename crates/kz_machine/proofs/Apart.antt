@@ -5,13 +5,13 @@ use Rattle.kz_model.specs.declared.record.Plan.{Plan}
 use Rattle.kz_model.specs.declared.record.Record.{Record}
 use Rattle.kz_model.specs.declared.record.Visit.{Visit}
 use Rattle.kz_model.specs.declared.supply.SupplyEntry.{SupplyEntry}
-use Rattle.kz_model.specs.Isolation.{IsIsolated}
-use Rattle.kz_model.specs.Order.{order_run}
-use Rattle.kz_model.specs.Planned.{IsPlanned}
-use Rattle.kz_model.specs.Recorded.{IsOfOrder}
-use Rattle.kz_model.specs.Run.{IsRun}
-use Rattle.kz_model.proofs.Isolated.{runs_are_isolated}
-use Rattle.kz_model.proofs.OrderIsRun.{order_is_run}
+use Rattle.kz_laws.specs.Isolation.{IsIsolated}
+use Rattle.kz_model.specs.Run.Order.{order_run}
+use Rattle.kz_model.specs.Types.Planned.{IsPlanned}
+use Rattle.kz_model.specs.Run.Recorded.{IsOfOrder}
+use Rattle.kz_model.specs.Run.Runs.{IsRun}
+use Rattle.kz_laws.proofs.Isolated.{runs_are_isolated}
+use Rattle.kz_laws.proofs.OrderIsRun.{order_is_run}
 use Rattle.kz_plan.proofs.Fit.{plans_are_fit}
 
 -- the run of the order is a run

@@ -11,11 +11,11 @@ use Rattle.kz_model.specs.declared.supply.Ask.{Ask}
 use Rattle.kz_model.specs.declared.supply.Ask.TheVariants.{Chunk, Frames, Back}
 use Rattle.kz_model.specs.declared.supply.Answer.{Answer}
 use Rattle.kz_model.specs.declared.supply.Answer.TheVariants.{Base, Given, NoSpace, NoFrames}
-use Rattle.kz_model.specs.Addresses.{IsForZone}
-use Rattle.kz_model.specs.Journal.{log_at}
-use Rattle.kz_model.specs.Report.{page_of, bases}
-use Rattle.kz_model.specs.Supply.{Stock, pages_left, answer_of, stock_after, answers_from}
-use Rattle.kz_model.proofs.Undelayed.{mine_or_other}
+use Rattle.kz_laws.specs.Addresses.{IsForZone}
+use Rattle.kz_model.specs.Run.Journal.{log_at}
+use Rattle.kz_model.specs.Run.Journal.{page_of, bases}
+use Rattle.kz_model.specs.Run.Supply.{Stock, pages_left, answer_of, stock_after, answers_from}
+use Rattle.kz_laws.proofs.Undelayed.{mine_or_other}
 
 -- ---- one answer
 
@@ -99,16 +99,16 @@ covers : (params : ℕ → ZoneParams) (zone pages : ℕ) (log : List SupplyEntr
 covers params zone pages [] stock lt own is = stays (params zone) (cursor stock (params zone).submap)
 covers params zone pages (entry ∷ log) stock lt own is =
     let p = params zone in
-    let Own : SupplyEntry → Type 0 = λ entry. IsForZone (params entry.zone) entry.ask in
+    let CpuPart : SupplyEntry → Type 0 = λ entry. IsForZone (params entry.zone) entry.ask in
     let first = answer_of pages stock entry.ask in
     let heads = same_heads entry.answer first (answers log) (answers_from pages (stock_after stock entry.ask first) (asks log)) is in
     let moved : Moves p stock entry.ask entry.answer = subst (λ (a : Answer). Moves p stock entry.ask a) (sym heads.0) (moves p pages stock entry.ask lt) in
     let next = stock_after stock entry.ask entry.answer in
-    let rest = covers params zone pages log next (subst (λ n. p.submap < n) (sym moved.size) lt) (All-tail Own entry log own)
+    let rest = covers params zone pages log next (subst (λ n. p.submap < n) (sym moved.size) lt) (All-tail CpuPart entry log own)
     (heads.1 ∙ ap (λ (a : Answer). answers_from pages (stock_after stock entry.ask a) (asks log)) (sym heads.0)) in
     let one : cursor stock p.submap + p.pages * (if entry.zone == zone then length (cons_option (page_of entry.answer) []) else 0) ≤ cursor next p.submap =
     elim (entry.zone == zone) as (λ t. (entry.zone == zone) ≡ t → cursor stock p.submap + p.pages * (if t then length (cons_option (page_of entry.answer) []) else 0) ≤ cursor next p.submap) [
-      | true ↦ λ e. let here : entry.zone ≡ zone = grind arith in moved.mine (subst (λ zone. IsForZone (params zone) entry.ask) here (All-head Own entry log own))
+      | true ↦ λ e. let here : entry.zone ≡ zone = grind arith in moved.mine (subst (λ zone. IsForZone (params zone) entry.ask) here (All-head CpuPart entry log own))
       | false ↦ λ e. let low = moved.any in omega arith
     ] refl in
     added (cursor stock p.submap) (cursor next p.submap) _ p.pages (if entry.zone == zone then length (cons_option (page_of entry.answer) []) else 0) (length (bases zone log)) (length (bases zone (entry ∷ log))) (chunks_first zone entry log) one rest

@@ -10,11 +10,11 @@ use Rattle.kz_model.specs.declared.bundle.OrderLine.{OrderLine}
 use Rattle.kz_model.specs.declared.bundle.OrderLine.TheVariants.{Cpu, Round}
 use Rattle.kz_model.specs.declared.bundle.TraceStep.{TraceStep}
 use Rattle.kz_model.specs.declared.record.Plan.{Plan}
-use Rattle.kz_model.specs.Journal.{trace_of, lines_of_round}
-use Rattle.kz_model.specs.Order.{default_round, default_rounds, order_of}
-use Rattle.kz_model.specs.Traces.{no_step}
-use Rattle.kz_model.specs.Valid.{IsValid}
-use Rattle.kz_model.specs.Play.{replies_so_far, line_to_play, lines_played}
+use Rattle.kz_model.specs.Run.Journal.{trace_of, lines_of_round}
+use Rattle.kz_model.specs.Run.Order.{default_round, default_rounds, order_of}
+use Rattle.kz_model.specs.Run.Journal.{no_step}
+use Rattle.kz_model.specs.Grammar.Valid.{IsValid}
+use Rattle.kz_laws.specs.Play.{replies_so_far, line_to_play, play_after_lines}
 use Rattle.kz_model.proofs.TraceRounds.{steps_within}
 use Rattle.kz_machine.specs.Left.{IsLeft, turns_from, rounds_after, turns_of, rounds_in, lines_until, IsRest, has_line_at}
 use Rattle.kz_machine.specs.Machine.{Machine, replies_at}
@@ -243,9 +243,9 @@ module _ (b : Bundle) (plan : Plan) (m : Machine) (cpu round : ℕ) (rest : List
       let all = is.rounds in
       let at = left.at.round in
       let of_round = turn.in_round in
-      let some : nat_lt (length (replies_so_far (lines_played b plan left.lines) cpu)) (length (trace_of b cpu)) ≡ true = let lt = turn.some in grind arith in
-      let same : ((line_to_play b (lines_played b plan left.lines) cpu).round == round) ≡ true = let here : (line_to_play b (lines_played b plan left.lines) cpu).round ≡ round = omega (arith, rounds, parts, none, all, at, of_round) in grind arith in
-      ap (λ n. has_line_at (trace_of b cpu) n round) place ∙ ap (λ t. t && ((line_to_play b (lines_played b plan left.lines) cpu).round == round)) some ∙ same
+      let some : nat_lt (length (replies_so_far (play_after_lines b plan left.lines) cpu)) (length (trace_of b cpu)) ≡ true = let lt = turn.some in grind arith in
+      let same : ((line_to_play b (play_after_lines b plan left.lines) cpu).round == round) ≡ true = let here : (line_to_play b (play_after_lines b plan left.lines) cpu).round ≡ round = omega (arith, rounds, parts, none, all, at, of_round) in grind arith in
+      ap (λ n. has_line_at (trace_of b cpu) n round) place ∙ ap (λ t. t && ((line_to_play b (play_after_lines b plan left.lines) cpu).round == round)) some ∙ same
 
   -- where it has none, its next line is of a later round
   pub no_line_is_left : IsLeft b plan m rest → IsValid b → has_line_at (trace_of b cpu) (length (replies_at m.replies cpu).items) round ≡ true → ⊥

@@ -7,17 +7,17 @@ use Rattle.kz_model.specs.declared.record.ZoneParams.{ZoneParams}
 use Rattle.kz_model.specs.declared.step.Step.{Step}
 use Rattle.kz_model.specs.declared.step.Step.TheVariants.{Flush}
 use Rattle.kz_model.specs.declared.supply.SupplyEntry.{SupplyEntry}
-use Rattle.kz_model.specs.Journal.{zone_of_name, params_of, answers_at}
-use Rattle.kz_model.specs.Late.{NeedNone, own_after, IsDelayed}
-use Rattle.kz_model.specs.Play.{ZonePlay}
-use Rattle.kz_model.specs.Rules.{name_of}
-use Rattle.kz_model.specs.Zone.{Own, ZoneState, own_of}
-use Rattle.kz_model.proofs.Undelayed.{mine_or_other}
-use Rattle.kz_book.specs.Book.{Book, Journal}
+use Rattle.kz_model.specs.Run.Journal.{zone_of_name, params_of, answers_at}
+use Rattle.kz_model.specs.Zone.Late.{NeedNone, part_after, IsDelayed}
+use Rattle.kz_laws.specs.Play.{ZonePlay}
+use Rattle.kz_model.specs.Zone.Rules.{name_of}
+use Rattle.kz_model.specs.Zone.State.{CpuPart, ZoneState, cpu_part}
+use Rattle.kz_laws.proofs.Undelayed.{mine_or_other}
+use Rattle.kz_book.specs.Book.{Book, History}
 use Rattle.kz_book.specs.Visits.{has_name, own_now}
 use Rattle.kz_cpu.specs.Cpu.{Cpu, Cache, Has, IsElsewhere, cache_at, recent_at}
 use Rattle.kz_cpu.specs.Caught.{IsCaughtUp}
-use Rattle.kz_machine.specs.Looks.{no_cpu, cpu_at}
+use Rattle.kz_machine.specs.Lookups.{no_cpu, cpu_at}
 use Rattle.kz_machine.specs.Stands.{IsCpuAt, IsZoneAt}
 
 -- ---- one CPU
@@ -59,20 +59,19 @@ cpu_keeps b plan cpu zone step c d is elsewhere named =
       names = elsewhere.names ∙ is.names;
       params = λ other lt. mine_or_other (λ k. (cache_at d k).params ≡ (cache_at c k).params) zone other elsewhere.params (λ ne. ap (λ (k : Cache). k.params) (elsewhere.others other ne)) ∙ is.params other lt;
       most_steps = λ other lt. mine_or_other (λ k. (cache_at d k).most_steps ≡ (cache_at c k).most_steps) zone other elsewhere.most_steps (λ ne. ap (λ (k : Cache). k.most_steps) (elsewhere.others other ne)) ∙ is.most_steps other lt;
-      magazine = λ other lt. mine_or_other (λ k. (cache_at d k).pair.magazine ≡ (cache_at c k).pair.magazine) zone other elsewhere.magazine (λ ne. ap (λ (k : Cache). k.pair.magazine) (elsewhere.others other ne)) ∙ is.magazine other lt;
       tags = λ name lt. elsewhere.tags name (zone_of_name b plan name) (λ has same. ap (zone_of_name b plan) same ∙ named has) (is.tags name lt);
     }
 
 -- it has caught up as before, where a history ends with the same for it
-pub caught_same : (c d : Cpu) (zone : ℕ) (j k : Journal) → (cache_at d zone) ≡ (cache_at c zone) → d.cpu ≡ c.cpu → ((own : Own) → Has c zone own → Has d zone own) → own_of k.made.end c.cpu ≡ own_of j.made.end c.cpu →
+pub caught_same : (c d : Cpu) (zone : ℕ) (j k : History) → (cache_at d zone) ≡ (cache_at c zone) → d.cpu ≡ c.cpu → ((own : CpuPart) → Has c zone own → Has d zone own) → cpu_part k.made.end c.cpu ≡ cpu_part j.made.end c.cpu →
     IsCaughtUp c zone j → IsCaughtUp d zone k
 caught_same c d zone j k cache number has own is =
-    let first = own_of j.made.end c.cpu in
-    let there : own_of k.made.end d.cpu ≡ first = ap (own_of k.made.end) number ∙ own in
+    let first = cpu_part j.made.end c.cpu in
+    let there : cpu_part k.made.end d.cpu ≡ first = ap (cpu_part k.made.end) number ∙ own in
     record {
-      none = subst (λ (own : Own). NeedNone (cache_at d zone).params own (recent_at d zone)) (sym there) (subst (λ (k : Cache). NeedNone k.params first k.recent) (sym cache) is.none);
-      has = subst (λ (own : Own). Has d zone (own_after (cache_at d zone).params own (recent_at d zone))) (sym there)
-          (subst (λ (k : Cache). Has d zone (own_after k.params first k.recent)) (sym cache) (has (own_now (cache_at c zone).params j c.cpu (recent_at c zone)) is.has));
+      none = subst (λ (own : CpuPart). NeedNone (cache_at d zone).params own (recent_at d zone)) (sym there) (subst (λ (k : Cache). NeedNone k.params first k.recent) (sym cache) is.none);
+      has = subst (λ (own : CpuPart). Has d zone (part_after (cache_at d zone).params own (recent_at d zone))) (sym there)
+          (subst (λ (k : Cache). Has d zone (part_after k.params first k.recent)) (sym cache) (has (own_now (cache_at c zone).params j c.cpu (recent_at c zone)) is.has));
     }
 
 -- ---- all CPUs
@@ -90,8 +89,8 @@ delayed_same p u d late now same is =
     record {
       shared = is.shared;
       cpus = is.cpus;
-      own = λ cpu lt. is.own cpu lt ∙ ap (λ (steps : List Step). own_after p (own_of d cpu) steps) (sym (same cpu lt));
-      none = λ cpu lt. subst (λ (steps : List Step). NeedNone p (own_of d cpu) steps) (sym (same cpu lt)) (is.none cpu lt);
+      own = λ cpu lt. is.own cpu lt ∙ ap (λ (steps : List Step). part_after p (cpu_part d cpu) steps) (sym (same cpu lt));
+      none = λ cpu lt. subst (λ (steps : List Step). NeedNone p (cpu_part d cpu) steps) (sym (same cpu lt)) (is.none cpu lt);
     }
 
 -- another zone is as it was

@@ -8,16 +8,16 @@ use Rattle.kz_model.specs.declared.record.Room.{Room}
 use Rattle.kz_model.specs.declared.record.Visit.{Visit}
 use Rattle.kz_model.specs.declared.step.Reply.{Reply}
 use Rattle.kz_model.specs.declared.supply.SupplyEntry.{SupplyEntry}
-use Rattle.kz_model.specs.Play.{ZonePlay, Play, no_play, zone_play, record_of}
-use Rattle.kz_model.specs.PlayedAt.{IsPlaySound}
-use Rattle.kz_model.specs.Zone.{Chunk, Shared}
+use Rattle.kz_laws.specs.Play.{ZonePlay, Play, no_play, zone_play, record_of}
+use Rattle.kz_laws.specs.PlayedAt.{IsPlaySound}
+use Rattle.kz_model.specs.Zone.State.{Chunk, Shared}
 use Rattle.kz_supply.specs.Thin.{ThinSupply}
 use Rattle.kz_book.specs.Book.{Book}
-use Rattle.kz_machine.specs.Blank.{HasRoomFor, sheet_at}
-use Rattle.kz_machine.specs.Looks.{no_book, no_room, book_at}
+use Rattle.kz_machine.specs.RecordRoom.{HasRoomFor, mark_room_at}
+use Rattle.kz_machine.specs.Lookups.{no_book, no_room, book_at}
 use Rattle.kz_machine.specs.Machine.{Machine}
 use Rattle.kz_machine.specs.Needs.{needed_of}
-use Rattle.kz_machine.specs.Stands.{IsZoneAt, IsAt}
+use Rattle.kz_machine.specs.Stands.{IsZoneAt, StandsForPlay}
 use Rattle.kz_machine.proofs.Fit.{room_here, rooms_long}
 
 -- two lists from which the same is made, place by place
@@ -30,25 +30,25 @@ map_alike f g xs ys d e none long same =
 abbrev pub made : List (List Reply) → List (List Visit) → List (List Bool) → List SupplyEntry → Record
 made replies visits mapped supply = record { replies = replies; visits = visits; mapped = mapped; supply = supply }
 
-module _ (m : Machine) (b : Bundle) (plan : Plan) (s : Play) (at : IsAt b plan m s) (sound : IsPlaySound b plan s) where
+module _ (m : Machine) (b : Bundle) (plan : Plan) (s : Play) (at : StandsForPlay b plan m s) (sound : IsPlaySound b plan s) where
   zone_at : (zone : ℕ) → zone < length m.books → IsZoneAt b plan m.cpus s.log zone (book_at m.books zone) (zone_play s zone)
   zone_at zone within = at.zones zone (subst (λ n. zone < n) at.books_long within)
 
-  pub visits_fit : length m.books ≤ m.blank.visits
-  visits_fit = let fit = at.blank.visits in let rooms = rooms_long b plan in let long = at.books_long in omega arith
+  pub visits_fit : length m.books ≤ m.record_room.visits
+  visits_fit = let fit = at.record_room.visits in let rooms = rooms_long b plan in let long = at.books_long in omega arith
 
-  pub mapped_fit : length m.books ≤ m.blank.mapped
-  mapped_fit = let fit = at.blank.mapped in let rooms = rooms_long b plan in let long = at.books_long in omega arith
+  pub mapped_fit : length m.books ≤ m.record_room.mapped
+  mapped_fit = let fit = at.record_room.mapped in let rooms = rooms_long b plan in let long = at.books_long in omega arith
 
-  enough : (zone : ℕ) → zone < length m.books → (needed_of b plan zone).chunks ≤ (sheet_at m.blank.sheets zone).chunks
+  enough : (zone : ℕ) → zone < length m.books → (needed_of b plan zone).chunks ≤ (mark_room_at m.record_room.mark_rooms zone).chunks
   enough zone within =
       let lt : zone < length plan.zones = subst (λ n. zone < n) at.books_long within in
-      subst (λ (room : Room). room.chunks ≤ (sheet_at m.blank.sheets zone).chunks) (room_here b plan zone no_room lt) (at.blank.sheets zone (subst (λ n. zone < n) (sym (rooms_long b plan)) lt))
+      subst (λ (room : Room). room.chunks ≤ (mark_room_at m.record_room.mark_rooms zone).chunks) (room_here b plan zone no_room lt) (at.record_room.mark_rooms zone (subst (λ n. zone < n) (sym (rooms_long b plan)) lt))
 
-  pub sheets_fit : HasRoomFor m.books m.blank.sheets
-  sheets_fit =
+  pub mark_rooms_fit : HasRoomFor m.books m.record_room.mark_rooms
+  mark_rooms_fit =
       record {
-        long = at.blank.sheets_long ∙ rooms_long b plan ∙ sym at.books_long;
+        long = at.record_room.mark_rooms_long ∙ rooms_long b plan ∙ sym at.books_long;
         chunks = λ zone within. let most = (zone_at zone within).most_chunks in let room = enough zone within in omega arith;
       }
 

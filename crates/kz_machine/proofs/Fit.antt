@@ -7,21 +7,17 @@ use Rattle.kz_model.specs.declared.bundle.Bundle.{Bundle}
 use Rattle.kz_model.specs.declared.record.Plan.{Plan}
 use Rattle.kz_model.specs.declared.record.Room.{Room}
 use Rattle.kz_model.specs.declared.record.ZoneRow.{ZoneRow}
-use Rattle.kz_model.specs.Journal.{params_of}
-use Rattle.kz_model.specs.Planned.{IsFitRow, IsFitPlan}
-use Rattle.kz_model.specs.PlayLaws.{HasElements}
-use Rattle.kz_model.specs.Rooms.{lines_on, steps_on, room_of, rooms_of}
-use Rattle.kz_model.specs.Valid.{IsValid}
-use Rattle.kz_zone.specs.Room.{AreFit, IsFit}
-use Rattle.kz_machine.specs.Looks.{no_room}
+use Rattle.kz_model.specs.Run.Journal.{params_of}
+use Rattle.kz_model.specs.Types.Planned.{IsFitRow, IsFitPlan}
+use Rattle.kz_model.specs.Types.Planned.{HasElements}
+use Rattle.kz_model.specs.Run.Rooms.{lines_on, steps_on, room_of}
+use Rattle.kz_model.specs.Grammar.Valid.{IsValid}
+use Rattle.kz_zone.specs.Room.{AreFitParams, IsFitRoom}
+use Rattle.kz_machine.specs.Lookups.{no_room}
 use Rattle.kz_machine.specs.Needs.{needed_of, needed_rooms, frames_in}
 use Rattle.kz_model.proofs.Sums.{sum_below-one}
 use Rattle.kz_machine.proofs.Lines.{all_lines, zone_steps, frames_are, sum_below-most}
-use Rattle.kz_model.specs.Amounts.{zone_lines, zone_allocations}
-
--- a room for each zone
-pub before_long : (b : Bundle) (plan : Plan) → length (rooms_of b plan) ≡ length plan.zones
-before_long b plan = length-map-range_with_len (room_of b plan) 0 (length plan.zones)
+use Rattle.kz_model.specs.Run.Rooms.{zone_lines, zone_allocations}
 
 -- what a run needs of a zone's room, by its place
 pub room_here : (b : Bundle) (plan : Plan) (zone : ℕ) (d : Room) → zone < length plan.zones → slice_index_or (needed_rooms b plan) zone d ≡ needed_of b plan zone
@@ -34,7 +30,7 @@ rooms_long b plan = length-map-range_with_len (needed_of b plan) 0 (length plan.
 pub steps_here : (b : Bundle) (plan : Plan) (zone cpu : ℕ) → cpu < b.cpus → slice_index_or (needed_of b plan zone).steps cpu 0 ≡ lines_on b plan zone cpu
 steps_here b plan zone cpu lt = get_or-map-range_with_len (lines_on b plan zone) 0 b.cpus cpu cpu 0 lt (omega arith)
 
-pub params_fit : (b : Bundle) (plan : Plan) (zone : ℕ) → IsValid b → IsFitPlan b plan → zone < length plan.zones → AreFit (params_of b plan zone)
+pub params_fit : (b : Bundle) (plan : Plan) (zone : ℕ) → IsValid b → IsFitPlan b plan → zone < length plan.zones → AreFitParams (params_of b plan zone)
 params_fit b plan zone valid fit lt =
     let row = All-get_or IsFitRow plan.zones zone (record { bucket = None; submap = 0; shape = record { element = 0; count = 0; pages = 0 }; types = 0 }) lt fit.rows in
     let shape = row.shape in
@@ -60,7 +56,7 @@ params_fit b plan zone valid fit lt =
       submap = row.submap;
     }
 
-pub room_fit : (b : Bundle) (plan : Plan) (zone : ℕ) → IsValid b → IsFitPlan b plan → zone < length plan.zones → IsFit (needed_of b plan zone)
+pub room_fit : (b : Bundle) (plan : Plan) (zone : ℕ) → IsValid b → IsFitPlan b plan → zone < length plan.zones → IsFitRoom (needed_of b plan zone)
 room_fit b plan zone valid fit lt =
     let few = div-le_self b.pages (params_of b plan zone).pages in
     let rows = sum (steps_on b plan zone) in
@@ -77,11 +73,11 @@ room_fit b plan zone valid fit lt =
       steps = omega arith;
     }
 
-pub rooms_fit : (b : Bundle) (plan : Plan) → IsValid b → IsFitPlan b plan → All IsFit (needed_rooms b plan)
+pub rooms_fit : (b : Bundle) (plan : Plan) → IsValid b → IsFitPlan b plan → All IsFitRoom (needed_rooms b plan)
 rooms_fit b plan valid fit =
-    All-from_get_or IsFit (needed_rooms b plan) no_room (λ zone within.
+    All-from_get_or IsFitRoom (needed_rooms b plan) no_room (λ zone within.
     let lt : zone < length plan.zones = subst (λ n. zone < n) (rooms_long b plan) within in
-    subst IsFit (sym (room_here b plan zone no_room lt)) (room_fit b plan zone valid fit lt))
+    subst IsFitRoom (sym (room_here b plan zone no_room lt)) (room_fit b plan zone valid fit lt))
 
 pub rooms_cpus : (b : Bundle) (plan : Plan) → All (λ room. room.params.cpus ≡ b.cpus) (needed_rooms b plan)
 rooms_cpus b plan =

@@ -5,17 +5,18 @@ use Rattle.std.proofs.lemmas.Nat.{le-div}
 use Rattle.std.proofs.lemmas.List.Elements.{All-get_or}
 use Rattle.kz_model.specs.declared.bundle.Bundle.{Bundle}
 use Rattle.kz_model.specs.declared.record.Plan.{Plan}
-use Rattle.kz_model.specs.Addresses.{IsForZone}
-use Rattle.kz_model.specs.Amounts.{is_allocating, sum_below, mapped_count, pages_held, stock_of}
-use Rattle.kz_model.specs.Journal.{params_of}
-use Rattle.kz_model.specs.Planned.{IsFitPlan}
-use Rattle.kz_model.specs.Play.{Play, zone_play}
-use Rattle.kz_model.specs.PlayedAt.{IsPlaySound, chunks_there}
-use Rattle.kz_model.specs.Report.{bases}
-use Rattle.kz_model.specs.Supply.{stocked, pages_left}
-use Rattle.kz_model.specs.Valid.{IsValid}
-use Rattle.kz_model.specs.Zone.{Chunk}
-use Rattle.kz_model.proofs.LineKinds.{kind_done_few}
+use Rattle.kz_laws.specs.Addresses.{IsForZone}
+use Rattle.kz_laws.specs.Amounts.{mapped_count, pages_held, stock_of}
+use Rattle.kz_model.specs.Run.Rooms.{is_allocating, sum_below}
+use Rattle.kz_model.specs.Run.Journal.{params_of}
+use Rattle.kz_model.specs.Types.Planned.{IsFitPlan}
+use Rattle.kz_laws.specs.Play.{Play, zone_play}
+use Rattle.kz_laws.specs.PlayedAt.{IsPlaySound, chunks_there}
+use Rattle.kz_model.specs.Run.Journal.{bases}
+use Rattle.kz_model.specs.Run.Supply.{opening_stock, pages_left}
+use Rattle.kz_model.specs.Grammar.Valid.{IsValid}
+use Rattle.kz_model.specs.Zone.State.{Chunk}
+use Rattle.kz_laws.proofs.LineKinds.{kind_done_few}
 use Rattle.kz_supply.specs.Supply.{grants_left, frames_out}
 use Rattle.kz_supply.specs.Thin.{ThinSupply, HasMade}
 use Rattle.kz_model.proofs.Sums.{sum_below-le}
@@ -59,7 +60,7 @@ module _ (b : Bundle) (plan : Plan) (s : Play) (valid : IsValid b) (fit : IsFitP
       let submap = (params_of b plan zone).submap in
       let cursor = slice_index (stock_of b s.log).cursors submap in
       let inside : cursor ≤ b.pages = All-get_or (λ cursor. cursor ≤ b.pages) (stock_of b s.log).cursors submap 0 (submap_there zone lt) sound.supplied.within in
-      let below = chunks_below (params_of b plan) zone b.pages s.log (stocked b.frames) known.submap own sound.supplied.answers in
+      let below = chunks_below (params_of b plan) zone b.pages s.log (opening_stock b.frames) known.submap own sound.supplied.answers in
       subst (λ k. grants_left submap (pages zone) supply_now.counted + k ≤ b.pages / pages zone) (sound.each zone lt).bases
       (grants_and_chunks b.pages cursor (pages zone) (length (bases zone s.log)) known.shape.some_pages below inside)
 
@@ -111,7 +112,7 @@ module _ (b : Bundle) (plan : Plan) (s : Play) (valid : IsValid b) (fit : IsFitP
   named_is : sum_below pages_named n ≡ sum (stock_of b s.log).cursors
   named_is =
       let none : sum (replicate 5 0) ≡ 0 = refl in
-      let spread = pages_spread (params_of b plan) n b.pages s.log (stocked b.frames) (λ zone lt. (params_fit b plan zone valid fit lt).submap) sound.supplied.of_zones own sound.supplied.answers in
+      let spread = pages_spread (params_of b plan) n b.pages s.log (opening_stock b.frames) (λ zone lt. (params_fit b plan zone valid fit lt).submap) sound.supplied.of_zones own sound.supplied.answers in
       omega (arith, none, spread)
 
   has_made : (count : ℕ) → frames_out supply_now.counted + count ≤ frames_in (needed_rooms b plan) → frames_out supply_now.counted + count ≤ 5 * b.pages → HasMade count supply_now

@@ -2,7 +2,6 @@ pub mod Steps
 pub mod Opened
 pub mod Lines
 pub mod Fit
-pub mod Limited
 pub mod Opens
 pub mod Cursors
 pub mod Spread

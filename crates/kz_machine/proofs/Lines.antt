@@ -3,37 +3,24 @@ use Rattle.std.proofs.Common.{◌≡◌, ◌<◌, ◌≤◌, ◌+◌, ◌*◌, �
 use Rattle.std.specs.List.{range_with_len}
 use Rattle.std.proofs.lemmas.List.FromFn.{fill_by_all}
 use Rattle.std.proofs.lemmas.List.Elements.{All-head, All-tail}
-use Rattle.std.proofs.lemmas.List.Sums.{sum-map, sum_by_push}
+use Rattle.std.proofs.lemmas.List.Sums.{sum-map}
 use Rattle.std.proofs.lemmas.List.{get_or-map, length-map}
 use Rattle.kz_model.specs.declared.bundle.Bundle.{Bundle}
 use Rattle.kz_model.specs.declared.bundle.TraceStep.{TraceStep}
 use Rattle.kz_model.specs.declared.record.Plan.{Plan}
 use Rattle.kz_model.specs.declared.record.Room.{Room}
 use Rattle.kz_model.specs.declared.supply.SupplyEntry.{SupplyEntry}
-use Rattle.kz_model.specs.Amounts.{is_allocating, sum_below, lines_there, zone_lines, zone_allocations}
-use Rattle.kz_model.specs.Journal.{params_of, addressed, trace_of, steps_among, log_at}
-use Rattle.kz_model.specs.Rooms.{steps_on}
-use Rattle.kz_model.specs.Valid.{IsValid}
-use Rattle.kz_model.proofs.LineKinds.{kind_few}
-use Rattle.kz_model.proofs.Sums.{sum_below-same, sum_below-zero, sum_below-le, sum_below-one}
-use Rattle.kz_model.proofs.TraceRounds.{range_push}
+use Rattle.kz_model.specs.Run.Rooms.{is_allocating, sum_below, zone_lines, zone_allocations}
+use Rattle.kz_model.specs.Run.Journal.{params_of, addressed, trace_of, steps_among, log_at}
+use Rattle.kz_model.specs.Run.Rooms.{lines_on, steps_on}
+use Rattle.kz_model.specs.Grammar.Valid.{IsValid}
+use Rattle.kz_laws.proofs.LineKinds.{kind_few}
+use Rattle.kz_model.proofs.Sums.{sum_below-same, sum_below-zero, sum_below-le, sum_below-one, sum_range}
+use Rattle.kz_bundle.specs.declared.planned.rooms.ZoneLoad.{ZoneLoad}
+use Rattle.kz_bundle.specs.Counted.{load_of, loads_of}
 use Rattle.kz_machine.specs.Needs.{needed_of, needed_rooms, allocations_of, most_entries, frames_in}
 
 -- ---- sums
-
--- the sum over a range
-pub sum_range : (f : ℕ → ℕ) (n : ℕ) → sum (map f (range_with_len 0 n)) ≡ sum_below f n
-sum_range f zero = refl
-sum_range f (suc n) =
-    let before : sum_by f (range_with_len 0 n) ≡ sum_below f n = sym (sum-map f (range_with_len 0 n)) ∙ sum_range f n in
-    let more : n + 1 ≡ suc n = omega arith in
-    let at : 0 + n ≡ n = omega arith in
-    sum-map f (range_with_len 0 (suc n))
-    ∙ ap (λ n. sum_by f (range_with_len 0 n)) (sym more)
-    ∙ ap (sum_by f) (range_push 0 n)
-    ∙ sum_by_push f (range_with_len 0 n) (0 + n)
-    ∙ ap (λ k. sum_by f (range_with_len 0 n) + f k) at
-    ∙ ap (λ m. m + f n) before
 
 pub sum_below-add : (f g : ℕ → ℕ) (n : ℕ) → sum_below (λ k. f k + g k) n ≡ sum_below f n + sum_below g n
 sum_below-add f g zero = refl
@@ -90,8 +77,8 @@ lines_spread b plan n (line ∷ lines) =
 -- all lines of the bundle
 pub all_lines : (b : Bundle) (plan : Plan) (n : ℕ) → IsValid b → sum_below (zone_lines b plan) n ≤ 1000000
 all_lines b plan n valid =
-    let swapped = sum_below-swap (λ zone cpu. lines_there b plan zone cpu) n b.cpus in
-    let few = sum_below-le (λ cpu. sum_below (λ zone. lines_there b plan zone cpu) n) (λ cpu. length (trace_of b cpu)) b.cpus (λ cpu lt. lines_spread b plan n (trace_of b cpu)) in
+    let swapped = sum_below-swap (λ zone cpu. lines_on b plan zone cpu) n b.cpus in
+    let few = sum_below-le (λ cpu. sum_below (λ zone. lines_on b plan zone cpu) n) (λ cpu. length (trace_of b cpu)) b.cpus (λ cpu lt. lines_spread b plan n (trace_of b cpu)) in
     let all : sum_below (λ cpu. length (trace_of b cpu)) b.cpus ≡ sum_by length b.traces =
     ap (sum_below (λ cpu. length (trace_of b cpu))) (sym valid.traces) ∙ sum_by_places (λ (trace : List TraceStep). length trace) [] b.traces in
     let most = valid.few_steps in
@@ -109,11 +96,15 @@ trace_few b cpu valid lt =
 
 -- a zone's steps of all CPUs
 pub zone_steps : (b : Bundle) (plan : Plan) (zone : ℕ) → sum (steps_on b plan zone) ≡ zone_lines b plan zone
-zone_steps b plan zone = sum_range (lines_there b plan zone) b.cpus
+zone_steps b plan zone = sum_range (lines_on b plan zone) b.cpus
 
 map_twice : {X Y Z : Type 0} (f : X → Y) (g : Y → Z) (xs : List X) → map g (map f xs) ≡ map (λ x. g (f x)) xs
 map_twice f g [] = refl
 map_twice f g (x ∷ xs) = ap (λ l. g (f x) ∷ l) (map_twice f g xs)
+
+-- how many lines allocate, by the loads of the zones
+pub allocations_are : (b : Bundle) (plan : Plan) (loads : List ZoneLoad) → loads ≡ loads_of b plan → map (λ load. load.allocating) loads ≡ allocations_of b plan
+allocations_are b plan loads are = ap (λ (loads : List ZoneLoad). map (λ load. load.allocating) loads) are ∙ map_twice (load_of b plan) (λ (load : ZoneLoad). load.allocating) (range_with_len 0 (length plan.zones))
 
 pub entries_are : (b : Bundle) (plan : Plan) → most_entries (allocations_of b plan) ≡ 2 * sum_below (zone_allocations b plan) (length plan.zones)
 entries_are b plan = ap (λ m. 2 * m) (sum_range (zone_allocations b plan) (length plan.zones))

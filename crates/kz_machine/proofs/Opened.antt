@@ -3,9 +3,9 @@ use Rattle.std.proofs.Common.{◌≡◌, ◌<◌, ◌+◌, ℕ, List, [], ◌∷
 use Rattle.std.proofs.Math.Seq.{get_or-append_seam}
 use Rattle.std.proofs.lemmas.List.{get_or-take, get_or_append_left, length-take-le}
 use Rattle.kz_model.specs.declared.record.Room.{Room}
-use Rattle.kz_model.proofs.Undelayed.{mine_or_other}
+use Rattle.kz_laws.proofs.Undelayed.{mine_or_other}
 use Rattle.kz_book.specs.Book.{Book}
-use Rattle.kz_machine.specs.Looks.{no_book, no_room, room_at, book_at}
+use Rattle.kz_machine.specs.Lookups.{no_book, no_room, room_at, book_at}
 use Rattle.kz_machine.specs.Opening.{IsOpened, AreOpened}
 
 -- one more book

@@ -13,26 +13,26 @@ use Rattle.kz_model.specs.declared.step.Reply.{Reply}
 use Rattle.kz_model.specs.declared.step.Step.{Step}
 use Rattle.kz_model.specs.declared.supply.Answer.{Answer}
 use Rattle.kz_model.specs.declared.supply.SupplyEntry.{SupplyEntry}
-use Rattle.kz_model.specs.Addresses.{IsForZone}
-use Rattle.kz_model.specs.Alone.{Course, alone}
-use Rattle.kz_model.specs.Journal.{params_of, zone_of_name, trace_of}
-use Rattle.kz_model.specs.Late.{NeedNone, own_after, IsDelayed}
-use Rattle.kz_model.specs.Planned.{IsPlanned, IsFitPlan}
-use Rattle.kz_model.specs.Play.{ZonePlay, zone_opened, zone_play, no_play, play_opened}
-use Rattle.kz_model.specs.Zone.{Own, ZoneState, nothing_own, own_of, opening}
-use Rattle.kz_model.proofs.OrderRuns.{zeros}
-use Rattle.kz_book.specs.Book.{Book, Journal}
+use Rattle.kz_laws.specs.Addresses.{IsForZone}
+use Rattle.kz_model.specs.Zone.Alone.{Course, alone}
+use Rattle.kz_model.specs.Run.Journal.{params_of, zone_of_name, trace_of}
+use Rattle.kz_model.specs.Zone.Late.{NeedNone, part_after, IsDelayed}
+use Rattle.kz_model.specs.Types.Planned.{IsPlanned, IsFitPlan}
+use Rattle.kz_laws.specs.Play.{ZonePlay, opening_zone_play, zone_play, no_play, opening_play}
+use Rattle.kz_model.specs.Zone.State.{CpuPart, ZoneState, no_cpu_part, cpu_part, opening}
+use Rattle.kz_laws.proofs.OrderRuns.{zeros}
+use Rattle.kz_book.specs.Book.{Book, History}
 use Rattle.kz_book.specs.Visits.{own_now}
 use Rattle.kz_cpu.specs.declared.binding.Binding.{Binding}
 use Rattle.kz_cpu.specs.Cpu.{Cpu, Cache, Has, IsTagged, no_cache, cache_at, recent_at, bound_in, opened_cache, opened_cpu}
 use Rattle.kz_cpu.specs.Caught.{IsCaughtUp}
-use Rattle.kz_model.specs.Replies.{ReplySheet}
-use Rattle.kz_machine.specs.Blank.{no_replies, IsBlankFor}
-use Rattle.kz_machine.specs.Looks.{no_cpu, no_room, cpu_at, book_at}
+use Rattle.kz_model.specs.Store.Replies.{RepliesSoFar}
+use Rattle.kz_machine.specs.RecordRoom.{no_replies, HasRecordRoom}
+use Rattle.kz_machine.specs.Lookups.{no_cpu, no_room, cpu_at, book_at}
 use Rattle.kz_machine.specs.Machine.{Machine, replies_at}
 use Rattle.kz_machine.specs.Needs.{needed_of, needed_rooms, allocations_of, most_entries, frames_needed}
 use Rattle.kz_machine.specs.Opening.{IsOpened, AreOpened}
-use Rattle.kz_machine.specs.Stands.{IsCpuAt, IsZoneAt, IsAt}
+use Rattle.kz_machine.specs.Stands.{IsCpuAt, IsZoneAt, StandsForPlay}
 use Rattle.kz_machine.proofs.Fit.{room_here, rooms_long, steps_here}
 
 -- ---- a CPU
@@ -42,7 +42,7 @@ no_binding zero name = refl
 no_binding (suc names) zero = refl
 no_binding (suc names) (suc name) = no_binding names name
 
-no_own : (cpus cpu : ℕ) → slice_index_or (replicate cpus nothing_own) cpu nothing_own ≡ nothing_own
+no_own : (cpus cpu : ℕ) → slice_index_or (replicate cpus no_cpu_part) cpu no_cpu_part ≡ no_cpu_part
 no_own zero cpu = refl
 no_own (suc cpus) zero = refl
 no_own (suc cpus) (suc cpu) = no_own cpus cpu
@@ -70,7 +70,6 @@ module _ (b : Bundle) (plan : Plan) where
         names = length-replicate {A = Option Binding} (length b.names) None;
         params = λ zone there. ap (λ (c : Cache). c.params) (cache_is cpu zone there);
         most_steps = λ zone there. ap (λ (c : Cache). c.most_steps) (cache_is cpu zone there) ∙ steps_here b plan zone cpu lt;
-        magazine = λ zone there. ap (λ (c : Cache). c.pair.magazine) (cache_is cpu zone there);
         tags = λ name there. subst (λ (o : Option Binding). IsTagged (zone_of_name b plan name) o) (sym (no_binding (length b.names) name)) tt;
       }
 
@@ -80,7 +79,7 @@ module _ (b : Bundle) (plan : Plan) where
   abbrev nothing_made : ZoneParams → Course
   nothing_made p = record { replies = []; asks = []; before = []; end = opening p; left = [] }
 
-  nothing_is : (p : ZoneParams) (j : Journal) → j.steps ≡ [] → j.answers ≡ [] → alone p j.steps j.answers ≡ Some j.made → j.made ≡ nothing_made p
+  nothing_is : (p : ZoneParams) (j : History) → j.steps ≡ [] → j.answers ≡ [] → alone p j.steps j.answers ≡ Some j.made → j.made ≡ nothing_made p
   nothing_is p j steps answers is =
       same_some j.made (nothing_made p)
       (sym is ∙ ap (λ (steps : List (ℕ × Step)). alone p steps j.answers) steps ∙ ap (λ (answers : List Answer). alone p [] answers) answers)
@@ -92,7 +91,7 @@ module _ (b : Bundle) (plan : Plan) where
     abbrev p : ZoneParams
     p = params_of b plan zone
 
-    abbrev j : Journal
+    abbrev j : History
     j = is.history
 
     end_is : j.made.end ≡ opening p
@@ -103,8 +102,8 @@ module _ (b : Bundle) (plan : Plan) where
     none_recent : (cpu : ℕ) → cpu < b.cpus → recent_at (cpu_at all_opened cpu) zone ≡ []
     none_recent cpu lt = ap (λ (c : Cpu). recent_at c zone) (cpu_is cpu lt) ∙ ap (λ (c : Cache). c.recent) (cache_is cpu zone there)
 
-    own_is : (cpu : ℕ) → own_of j.made.end cpu ≡ nothing_own
-    own_is cpu = ap (λ (state : ZoneState). own_of state cpu) end_is ∙ no_own b.cpus cpu
+    own_is : (cpu : ℕ) → cpu_part j.made.end cpu ≡ no_cpu_part
+    own_is cpu = ap (λ (state : ZoneState). cpu_part state cpu) end_is ∙ no_own b.cpus cpu
 
     delayed : IsDelayed p (opening p) j.made.end (λ cpu. recent_at (cpu_at all_opened cpu) zone)
     delayed =
@@ -114,28 +113,28 @@ module _ (b : Bundle) (plan : Plan) where
           own = λ cpu lt.
               no_own b.cpus cpu
               ∙ sym (own_is cpu)
-              ∙ ap (λ (steps : List Step). own_after p (own_of j.made.end cpu) steps) (sym (none_recent cpu (within cpu lt)));
-          none = λ cpu lt. subst (λ (steps : List Step). NeedNone p (own_of j.made.end cpu) steps) (sym (none_recent cpu (within cpu lt))) tt;
+              ∙ ap (λ (steps : List Step). part_after p (cpu_part j.made.end cpu) steps) (sym (none_recent cpu (within cpu lt)));
+          none = λ cpu lt. subst (λ (steps : List Step). NeedNone p (cpu_part j.made.end cpu) steps) (sym (none_recent cpu (within cpu lt))) tt;
         }
       where
         within : (cpu : ℕ) → cpu < length j.made.end.own → cpu < b.cpus
-        within cpu lt = subst (λ n. cpu < n) (ap (λ (state : ZoneState). length state.own) end_is ∙ length-replicate b.cpus nothing_own) lt
+        within cpu lt = subst (λ n. cpu < n) (ap (λ (state : ZoneState). length state.own) end_is ∙ length-replicate b.cpus no_cpu_part) lt
 
     caught_opened : (cpu : ℕ) → IsCaughtUp (opened cpu) zone j
     caught_opened cpu =
         let cache = cache_is cpu zone there in
         let recent : recent_at (opened cpu) zone ≡ [] = ap (λ (c : Cache). c.recent) cache in
         let q = (cache_at (opened cpu) zone).params in
-        let now : own_now q j cpu (recent_at (opened cpu) zone) ≡ nothing_own = ap (λ (steps : List Step). own_after q (own_of j.made.end cpu) steps) recent ∙ own_is cpu in
+        let now : own_now q j cpu (recent_at (opened cpu) zone) ≡ no_cpu_part = ap (λ (steps : List Step). part_after q (cpu_part j.made.end cpu) steps) recent ∙ own_is cpu in
         record {
-          none = subst (λ (steps : List Step). NeedNone q (own_of j.made.end cpu) steps) (sym recent) tt;
-          has = subst (λ (own : Own). Has (opened cpu) zone own) (sym now) (record {
+          none = subst (λ (steps : List Step). NeedNone q (cpu_part j.made.end cpu) steps) (sym recent) tt;
+          has = subst (λ (own : CpuPart). Has (opened cpu) zone own) (sym now) (record {
             stack = ap (λ (c : Cache). c.pair.blocks) cache;
             names = λ name lt. ap (bound_in zone) (no_binding (length b.names) name);
           });
         }
 
-    zone_opens : IsZoneAt b plan all_opened [] zone book (zone_opened p)
+    zone_opens : IsZoneAt b plan all_opened [] zone book (opening_zone_play p)
     zone_opens =
         record {
           room = is.room;
@@ -152,26 +151,26 @@ module _ (b : Bundle) (plan : Plan) where
 
   -- ---- the replies
 
-  none_said : (traces : List (List TraceStep)) → map (λ (r : ReplySheet). r.items) (map (λ (trace : List TraceStep). record { room = length trace; items = [] }) traces) ≡ replicate (length traces) []
+  none_said : (traces : List (List TraceStep)) → map (λ (r : RepliesSoFar). r.items) (map (λ (trace : List TraceStep). record { room = length trace; items = [] }) traces) ≡ replicate (length traces) []
   none_said [] = refl
   none_said (trace ∷ traces) = ap (λ (l : List (List Reply)). [] ∷ l) (none_said traces)
 
   pub opens_at : (m : Machine) → IsPlanned b plan → IsFitPlan b plan → m.cpus ≡ all_opened → AreOpened (needed_rooms b plan) m.books → m.rooms ≡ needed_rooms b plan →
       m.supply ≡ record { counted = record { frames = b.frames; pages = b.pages; room = most_entries (allocations_of b plan); log = [] }; made = min b.frames (frames_needed b.pages (needed_rooms b plan)) } →
-      m.replies ≡ map (λ trace. record { room = length trace; items = [] }) b.traces → m.round ≡ 0 → IsBlankFor (needed_rooms b plan) b.cpus m.blank →
-      IsAt b plan m (play_opened b plan)
-  opens_at m planned fit cpus books rooms supply replies round blank =
+      m.replies ≡ map (λ trace. record { room = length trace; items = [] }) b.traces → m.round ≡ 0 → HasRecordRoom (needed_rooms b plan) b.cpus m.record_room →
+      StandsForPlay b plan m (opening_play b plan)
+  opens_at m planned fit cpus books rooms supply replies round record_room =
       let traces = planned.is_valid.traces in
-      let said : List TraceStep → ReplySheet = λ trace. record { room = length trace; items = [] } in
+      let said : List TraceStep → RepliesSoFar = λ trace. record { room = length trace; items = [] } in
       record {
         planned = planned;
         fit = fit;
         round = round;
-        replies = ap (λ (l : List ReplySheet). map (λ r. r.items) l) replies ∙ none_said b.traces ∙ ap (λ n. replicate n []) traces;
+        replies = ap (λ (l : List RepliesSoFar). map (λ r. r.items) l) replies ∙ none_said b.traces ∙ ap (λ n. replicate n []) traces;
         places = λ cpu lt.
             let here : replies_at m.replies cpu ≡ said (trace_of b cpu) =
-            ap (λ (l : List ReplySheet). replies_at l cpu) replies ∙ get_or-map said b.traces cpu [] no_replies (subst (λ n. cpu < n) (sym traces) lt) in
-            let same = ap (λ (r : ReplySheet). r.room) here in omega arith;
+            ap (λ (l : List RepliesSoFar). replies_at l cpu) replies ∙ get_or-map said b.traces cpu [] no_replies (subst (λ n. cpu < n) (sym traces) lt) in
+            let same = ap (λ (r : RepliesSoFar). r.room) here in omega arith;
         supply = supply;
         own_asks = All-nil (λ (entry : SupplyEntry). IsForZone (params_of b plan entry.zone) entry.ask);
         rooms = rooms;
@@ -179,10 +178,10 @@ module _ (b : Bundle) (plan : Plan) where
         books_long = books.long ∙ rooms_long b plan;
         cpus = λ cpu lt. subst (λ (c : Cpu). IsCpuAt b plan cpu c) (sym (ap (λ (l : List Cpu). cpu_at l cpu) cpus ∙ cpu_is cpu lt)) (opened_at cpu lt);
         zones = λ zone there.
-            let is : zone_play (play_opened b plan) zone ≡ zone_opened (params_of b plan zone) =
-            get_or-map-range_with_len (λ zone. zone_opened (params_of b plan zone)) 0 (length plan.zones) zone zone no_play there (omega arith) in
+            let is : zone_play (opening_play b plan) zone ≡ opening_zone_play (params_of b plan zone) =
+            get_or-map-range_with_len (λ zone. opening_zone_play (params_of b plan zone)) 0 (length plan.zones) zone zone no_play there (omega arith) in
             let one = subst (λ (room : Room). IsOpened room (book_at m.books zone)) (room_here b plan zone no_room there) (books.each zone (subst (λ n. zone < n) (sym (rooms_long b plan)) there)) in
             subst (λ (z : ZonePlay). IsZoneAt b plan m.cpus [] zone (book_at m.books zone) z) (sym is)
-            (subst (λ (l : List Cpu). IsZoneAt b plan l [] zone (book_at m.books zone) (zone_opened (params_of b plan zone))) (sym cpus) (zone_opens zone (book_at m.books zone) there one));
-        blank = blank;
+            (subst (λ (l : List Cpu). IsZoneAt b plan l [] zone (book_at m.books zone) (opening_zone_play (params_of b plan zone))) (sym cpus) (zone_opens zone (book_at m.books zone) there one));
+        record_room = record_room;
       }

@@ -9,11 +9,11 @@ use Rattle.kz_model.specs.declared.supply.Answer.{Answer}
 use Rattle.kz_model.specs.declared.supply.Ask.{Ask}
 use Rattle.kz_model.specs.declared.supply.Ask.TheVariants.{Chunk, Frames, Back}
 use Rattle.kz_model.specs.declared.supply.SupplyEntry.{SupplyEntry}
-use Rattle.kz_model.specs.Addresses.{IsForZone}
-use Rattle.kz_model.specs.Pick.{unmapped_place, ask_to_grow}
-use Rattle.kz_model.specs.Rules.{must_grow, refusal, asks_of_action, asks_of}
-use Rattle.kz_model.specs.Zone.{Shared, Own}
-use Rattle.kz_model.proofs.OrderLines.{entries}
+use Rattle.kz_laws.specs.Addresses.{IsForZone}
+use Rattle.kz_model.specs.Zone.Pick.{unmapped_place, ask_to_grow}
+use Rattle.kz_model.specs.Zone.Rules.{must_grow, refusal, asks_of_action, asks_of}
+use Rattle.kz_model.specs.Zone.State.{Shared, CpuPart}
+use Rattle.kz_laws.proofs.OrderLines.{entries}
 
 abbrev AreOwn : ZoneParams → List Ask → Type 0
 AreOwn p asks = All (IsForZone p) asks
@@ -40,7 +40,7 @@ acting p s stack (Write name off bytes) = All-nil (IsForZone p)
 acting p s stack Flush = All-nil (IsForZone p)
 acting p s stack Trim = giving_back p _
 
-own_asks : (p : ZoneParams) (s : Shared) (cpu : ℕ) (own : Own) (step : Step) → AreOwn p (asks_of p s cpu own step)
+own_asks : (p : ZoneParams) (s : Shared) (cpu : ℕ) (own : CpuPart) (step : Step) → AreOwn p (asks_of p s cpu own step)
 own_asks p s cpu own step =
     elim (is_some (refusal p s cpu own step)) as (λ b. AreOwn p (if b then [] else asks_of_action p s own.stack step)) [ true ↦ All-nil (IsForZone p) | false ↦ acting p s own.stack step ]
 
@@ -52,6 +52,6 @@ entries_own params zone (ask ∷ asks) (answer ∷ answers) are =
     All-cons (λ (entry : SupplyEntry). IsForZone (params entry.zone) entry.ask) (record { zone = zone; ask = ask; answer = answer }) (entries zone asks answers)
     (All-head (IsForZone (params zone)) ask asks are) (entries_own params zone asks answers (All-tail (IsForZone (params zone)) ask asks are))
 
-pub step_entries_own : (params : ℕ → ZoneParams) (zone : ℕ) (s : Shared) (cpu : ℕ) (own : Own) (step : Step) (answers : List Answer) →
+pub step_entries_own : (params : ℕ → ZoneParams) (zone : ℕ) (s : Shared) (cpu : ℕ) (own : CpuPart) (step : Step) (answers : List Answer) →
     All (λ entry. IsForZone (params entry.zone) entry.ask) (entries zone (asks_of (params zone) s cpu own step) answers)
 step_entries_own params zone s cpu own step answers = entries_own params zone (asks_of (params zone) s cpu own step) answers (own_asks (params zone) s cpu own step)

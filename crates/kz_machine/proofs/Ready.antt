@@ -15,29 +15,33 @@ use Rattle.kz_model.specs.declared.record.Room.{Room}
 use Rattle.kz_model.specs.declared.record.Visit.{Visit}
 use Rattle.kz_model.specs.declared.record.ZoneParams.{ZoneParams}
 use Rattle.kz_model.specs.declared.step.Step.{Step}
-use Rattle.kz_model.specs.Amounts.{mapped_count, pages_held, stock_of, carried_of, lines_there, lines_done, zone_lines, zone_lines_done, is_allocating, is_giving, zone_kind, zone_kind_done, zone_allocations, zone_allocations_done, zone_gifts, zone_gifts_done}
-use Rattle.kz_model.specs.Journal.{params_of, zone_of_name, addressed, trace_of, steps_among, log_at}
-use Rattle.kz_model.specs.Play.{ZonePlay, Play, zone_play, replies_so_far, line_to_play}
-use Rattle.kz_model.specs.PlayedAt.{IsZonePlayed}
-use Rattle.kz_model.specs.Rules.{name_of}
-use Rattle.kz_model.specs.Traces.{no_step}
-use Rattle.kz_model.specs.Valid.{IsActWithin, IsStepWithin, IsValid}
-use Rattle.kz_model.specs.Zone.{Chunk, Gift, Shared}
-use Rattle.kz_model.proofs.LineKinds.{kind_left, kind_done_few}
-use Rattle.kz_model.proofs.PlayedReplies.{step_within}
+use Rattle.kz_laws.specs.Amounts.{mapped_count, pages_held, stock_of, lines_done, zone_lines_done, zone_kind_done, zone_allocations_done, zone_gifts_done}
+use Rattle.kz_model.specs.Run.Journal.{carried_of}
+use Rattle.kz_model.specs.Run.Rooms.{zone_lines, is_allocating, is_giving, zone_kind, zone_allocations, zone_gifts}
+use Rattle.kz_model.specs.Run.Journal.{params_of, zone_of_name, addressed, trace_of, steps_among, log_at}
+use Rattle.kz_model.specs.Run.Rooms.{lines_on}
+use Rattle.kz_laws.specs.Play.{ZonePlay, Play, zone_play, replies_so_far, line_to_play}
+use Rattle.kz_laws.specs.PlayedAt.{IsZonePlayed}
+use Rattle.kz_model.specs.Zone.Rules.{name_of}
+use Rattle.kz_model.specs.Run.Journal.{no_step}
+use Rattle.kz_model.specs.Store.Traces.{AreNumbered}
+use Rattle.kz_model.specs.Grammar.Valid.{HasShortRead, IsStepWithin, IsValid}
+use Rattle.kz_model.specs.Zone.State.{Chunk, Gift, Shared}
+use Rattle.kz_laws.proofs.LineKinds.{kind_left, kind_done_few}
+use Rattle.kz_laws.proofs.PlayedReplies.{step_within}
 use Rattle.kz_model.proofs.TraceRounds.{steps_within}
-use Rattle.kz_model.specs.Supply.{pages_left}
+use Rattle.kz_model.specs.Run.Supply.{pages_left}
 use Rattle.kz_supply.specs.Supply.{stock_of as left_of}
 use Rattle.kz_supply.specs.Supply.{Supply, room_left, backs_left, grants_left, frames_out}
 use Rattle.kz_supply.specs.Thin.{ThinSupply, HasMade}
-use Rattle.kz_book.specs.Book.{Book, carried_by}
+use Rattle.kz_book.specs.Book.{Book}
 use Rattle.kz_book.specs.Visits.{has_name, gives, ReadsFew}
 use Rattle.kz_cpu.specs.Cpu.{Cpu, IsTagged, binding_at, recent_at}
-use Rattle.kz_machine.specs.Looks.{cpu_at, book_at}
+use Rattle.kz_machine.specs.Lookups.{cpu_at, book_at}
 use Rattle.kz_machine.specs.Machine.{Machine}
 use Rattle.kz_machine.specs.Needs.{needed_of, allocations_of, most_entries}
-use Rattle.kz_machine.specs.Stands.{IsCpuAt, IsZoneAt, IsAt, IsTurn}
-use Rattle.kz_machine.specs.Steps.{side, IsReady, allocates}
+use Rattle.kz_machine.specs.Stands.{IsCpuAt, IsZoneAt, StandsForPlay, IsTurn}
+use Rattle.kz_machine.specs.Steps.{parties, IsReady, allocates}
 use Rattle.kz_machine.proofs.Frames.{supply_of, in_submap as submap_fits, unmapped_made, granted_made}
 use Rattle.kz_machine.proofs.Fit.{params_fit, steps_here}
 use Rattle.kz_model.proofs.Sums.{sum_below-one}
@@ -46,7 +50,7 @@ use Rattle.kz_machine.proofs.Lines.{entries_are, sum_below-room, sum_below-twice
 -- ---- a line's step
 
 -- its name is one of the bundle's, and of the zone
-pub named : (b : Bundle) (plan : Plan) (line : Act) → IsActWithin (length b.names) (length b.types) line → has_name (addressed b plan line).1 ≡ true →
+pub named : (b : Bundle) (plan : Plan) (line : Act) → AreNumbered (length b.names) (length b.types) line → has_name (addressed b plan line).1 ≡ true →
     (name_of (addressed b plan line).1 < length b.names) × (zone_of_name b plan (name_of (addressed b plan line).1) ≡ (addressed b plan line).0)
 named b plan (act.Alloc name of) is has = (is.0, refl)
 named b plan (act.AllocZero name of) is has = (is.0, refl)
@@ -54,19 +58,19 @@ named b plan (act.Free name None) is has = (is, refl)
 named b plan (act.Free name (Some of)) is has = (is.0, refl)
 named b plan (act.Give name to) is has = (is, refl)
 named b plan (act.Take name) is has = (is, refl)
-named b plan (act.Read name off len) is has = (is.0, refl)
+named b plan (act.Read name off len) is has = (is, refl)
 named b plan (act.Write name off bytes) is has = (is, refl)
 named b plan (act.Flush of) is has = absurd (cc)
 named b plan (act.Trim of) is has = absurd (cc)
 
-reads_few : (b : Bundle) (plan : Plan) (line : Act) → IsActWithin (length b.names) (length b.types) line → ReadsFew (addressed b plan line).1
+reads_few : (b : Bundle) (plan : Plan) (line : Act) → HasShortRead line → ReadsFew (addressed b plan line).1
 reads_few b plan (act.Alloc name of) is = tt
 reads_few b plan (act.AllocZero name of) is = tt
 reads_few b plan (act.Free name None) is = tt
 reads_few b plan (act.Free name (Some of)) is = tt
 reads_few b plan (act.Give name to) is = tt
 reads_few b plan (act.Take name) is = tt
-reads_few b plan (act.Read name off len) is = is.1
+reads_few b plan (act.Read name off len) is = is
 reads_few b plan (act.Write name off bytes) is = tt
 reads_few b plan (act.Flush of) is = tt
 reads_few b plan (act.Trim of) is = tt
@@ -97,10 +101,6 @@ giving_line b plan (act.Trim of) is = absurd (cc)
 
 -- ---- counts that are said twice
 
-pub carried_same : (cpu : ℕ) (visits : List Visit) → carried_by cpu visits ≡ carried_of cpu visits
-carried_same cpu [] = refl
-carried_same cpu (v ∷ visits) = ap (λ n. (if v.cpu == cpu then v.count else 0) + n) (carried_same cpu visits)
-
 mapped_same : (chunks : List Chunk) → mapped_count chunks ≡ count_by (λ chunk. chunk.mapped) chunks
 mapped_same chunks = is_count_by mapped_count (λ (chunk : Chunk). chunk.mapped) refl first chunks
   where
@@ -109,7 +109,7 @@ mapped_same chunks = is_count_by mapped_count (λ (chunk : Chunk). chunk.mapped)
 
 -- ---- the turn
 
-module _ (b : Bundle) (plan : Plan) (m : Machine) (s : Play) (cpu zone : ℕ) (step : Step) (at : IsAt b plan m s) (turn : IsTurn b plan s cpu zone step) where
+module _ (b : Bundle) (plan : Plan) (m : Machine) (s : Play) (cpu zone : ℕ) (step : Step) (at : StandsForPlay b plan m s) (turn : IsTurn b plan s cpu zone step) where
   abbrev p : ZoneParams
   p = params_of b plan zone
 
@@ -149,19 +149,19 @@ module _ (b : Bundle) (plan : Plan) (m : Machine) (s : Play) (cpu zone : ℕ) (s
   abbrev sound : IsZonePlayed b plan s zone z
   sound = turn.sound.each zone in_zones
 
-  within : IsActWithin (length b.names) (length b.types) (line_to_play b s cpu).act
-  within = (All-get_or (IsStepWithin (length b.names) (length b.types) b.rounds) (trace_of b cpu) (length (replies_so_far s cpu)) no_step turn.turn.some (steps_within b valid cpu)).act
+  within : IsStepWithin (length b.names) (length b.types) b.rounds (line_to_play b s cpu)
+  within = All-get_or (IsStepWithin (length b.names) (length b.types) b.rounds) (trace_of b cpu) (length (replies_so_far s cpu)) no_step turn.turn.some (steps_within b valid cpu)
 
   named_here : has_name step ≡ true → (name_of step < length b.names) × (zone_of_name b plan (name_of step) ≡ zone)
   named_here has =
-      let first = subst (λ (step : Step). has_name step ≡ true → (name_of step < length b.names) × (zone_of_name b plan (name_of step) ≡ (addressed b plan (line_to_play b s cpu).act).0)) step_is (named b plan (line_to_play b s cpu).act within) has in
+      let first = subst (λ (step : Step). has_name step ≡ true → (name_of step < length b.names) × (zone_of_name b plan (name_of step) ≡ (addressed b plan (line_to_play b s cpu).act).0)) step_is (named b plan (line_to_play b s cpu).act within.act) has in
       (first.0, first.1 ∙ zone_is)
 
   pub zone_of_name_is : has_name step ≡ true → zone_of_name b plan (name_of step) ≡ zone
   zone_of_name_is has = (named_here has).1
 
   -- this CPU has a line left there
-  line_left : lines_done b plan s zone cpu < lines_there b plan zone cpu
+  line_left : lines_done b plan s zone cpu < lines_on b plan zone cpu
   line_left =
       let n = length (replies_so_far s cpu) in
       let trace = trace_of b cpu in
@@ -180,9 +180,9 @@ module _ (b : Bundle) (plan : Plan) (m : Machine) (s : Play) (cpu zone : ℕ) (s
   allocation_here : allocates step ≡ true → zone_allocations_done b plan s zone < zone_allocations b plan zone
   allocation_here is = kind_here is_allocating (allocating_line b plan (line_to_play b s cpu).act (subst (λ (step : Step). allocates step ≡ true) (sym step_is) is))
 
-  carried_here : carried_by cpu book.visits + length (recent_at c zone) ≡ lines_done b plan s zone cpu
+  carried_here : carried_of cpu book.visits + length (recent_at c zone) ≡ lines_done b plan s zone cpu
   carried_here =
-      let visits : carried_by cpu book.visits ≡ carried_of cpu z.visits = carried_same cpu book.visits ∙ ap (carried_of cpu) there.visits in
+      let visits : carried_of cpu book.visits ≡ carried_of cpu z.visits = ap (carried_of cpu) there.visits in
       let late = there.late cpu is_cpu in
       let all = sound.carried cpu is_cpu in
       omega arith
@@ -239,7 +239,7 @@ module _ (b : Bundle) (plan : Plan) (m : Machine) (s : Play) (cpu zone : ℕ) (s
       let all = turn.sound.frames in
       omega arith
 
-  pub ready_here : IsReady p (side c book m.supply) step
+  pub ready_here : IsReady p (parties c book m.supply) step
   ready_here =
       let fit = params_fit b plan zone valid at.fit in_zones in
       let number = here.number in
@@ -255,18 +255,17 @@ module _ (b : Bundle) (plan : Plan) (m : Machine) (s : Play) (cpu zone : ℕ) (s
         one_of = omega arith;
         params = ap (λ (room : Room). room.params) there.room;
         cache = here.params zone in_zones;
-        magazine = here.magazine zone in_zones;
         history = there.history;
         keeps = there.keeps;
         caught = there.caught cpu is_cpu;
-        room = subst (λ n. carried_by n book.visits + (length (recent_at c zone) + 1) ≤ slice_index_or book.room.steps n 0) (sym number)
-            (subst (λ n. carried_by cpu book.visits + (length (recent_at c zone) + 1) ≤ n) (sym (ap (λ (room : Room). slice_index_or room.steps cpu 0) there.room ∙ steps_here b plan zone cpu is_cpu)) (omega arith));
+        room = subst (λ n. carried_of n book.visits + (length (recent_at c zone) + 1) ≤ slice_index_or book.room.steps n 0) (sym number)
+            (subst (λ n. carried_of cpu book.visits + (length (recent_at c zone) + 1) ≤ n) (sym (ap (λ (room : Room). slice_index_or room.steps cpu 0) there.room ∙ steps_here b plan zone cpu is_cpu)) (omega arith));
         gifts = λ is.
             let few = sound.gifts in
             let most = there.most_gifts in
             let left = gift_here is in
             subst (λ (l : List Gift). length l < book.zone.most_gifts) (sym gifts_are) (omega arith);
-        reads = subst ReadsFew step_is (reads_few b plan (line_to_play b s cpu).act within);
+        reads = subst ReadsFew step_is (reads_few b plan (line_to_play b s cpu).act within.read);
         submap = fit.submap;
         some_pages = fit.shape.some_pages;
         few_pages = fit.shape.most_pages;

@@ -3,15 +3,15 @@ use Rattle.std.proofs.Common.{◌≡◌, ◌<◌, ◌+◌, ◌^◌, ℕ, List, l
 use Rattle.std.proofs.lemmas.List.{get_or-map}
 use Rattle.kz_model.specs.declared.bundle.Bundle.{Bundle}
 use Rattle.kz_model.specs.declared.record.Plan.{Plan}
-use Rattle.kz_model.specs.Play.{ZonePlay, Play, no_play, zone_settled, round_ended}
+use Rattle.kz_laws.specs.Play.{ZonePlay, Play, no_play, zone_after_settling, play_after_round}
 use Rattle.kz_book.specs.Book.{Book}
 use Rattle.kz_cpu.specs.Cpu.{Cpu}
-use Rattle.kz_machine.specs.Looks.{book_at}
+use Rattle.kz_machine.specs.Lookups.{book_at}
 use Rattle.kz_machine.specs.Machine.{Machine}
 use Rattle.kz_machine.specs.Settling.{AreSettled}
-use Rattle.kz_machine.specs.Stands.{IsZoneAt, IsAt, IsRoundsEnd}
+use Rattle.kz_machine.specs.Stands.{IsZoneAt, StandsForPlay, IsRoundsEnd}
 
-module _ (m : Machine) (b : Bundle) (plan : Plan) (s : Play) (at : IsAt b plan m s) where
+module _ (m : Machine) (b : Bundle) (plan : Plan) (s : Play) (at : StandsForPlay b plan m s) where
   pub few_books : length m.books < 2 ^ 32
   few_books = let few = at.fit.few in let long = at.books_long in omega arith
 
@@ -31,7 +31,7 @@ module _ (m : Machine) (b : Bundle) (plan : Plan) (s : Play) (at : IsAt b plan m
     rounds_few = let within = end.within in let few = at.planned.is_valid.rounds.1 in let round = at.round in omega arith
 
     -- all zones have
-    pub round_keeps : (cpus : List Cpu) (books : List Book) (n : ℕ) → n ≡ length m.books → AreSettled b plan s n cpus books → IsAt b plan (record m { cpus = cpus; books = books; round = m.round + 1 }) (round_ended b s)
+    pub round_keeps : (cpus : List Cpu) (books : List Book) (n : ℕ) → n ≡ length m.books → AreSettled b plan s n cpus books → StandsForPlay b plan (record m { cpus = cpus; books = books; round = m.round + 1 }) (play_after_round b s)
     round_keeps cpus books n all is =
         record {
           planned = at.planned;
@@ -47,7 +47,7 @@ module _ (m : Machine) (b : Bundle) (plan : Plan) (s : Play) (at : IsAt b plan m
           cpus = is.each;
           zones = λ zone in'.
               let there : zone < length s.zones = subst (λ n. zone < n) (sym end.sound.zones) in' in
-              subst (λ (z : ZonePlay). IsZoneAt b plan cpus s.log zone (book_at books zone) z) (sym (get_or-map (zone_settled s.round b.cpus) s.zones zone no_play no_play there))
+              subst (λ (z : ZonePlay). IsZoneAt b plan cpus s.log zone (book_at books zone) z) (sym (get_or-map (zone_after_settling s.round b.cpus) s.zones zone no_play no_play there))
               (is.done zone (subst (λ n. zone < n) (sym (all ∙ at.books_long)) in') in');
-          blank = at.blank;
+          record_room = at.record_room;
         }

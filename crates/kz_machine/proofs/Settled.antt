@@ -11,28 +11,27 @@ use Rattle.kz_model.specs.declared.record.ZoneParams.{ZoneParams}
 use Rattle.kz_model.specs.declared.step.Step.{Step}
 use Rattle.kz_model.specs.declared.step.Step.TheVariants.{Flush}
 use Rattle.kz_model.specs.declared.supply.SupplyEntry.{SupplyEntry}
-use Rattle.kz_model.specs.Amounts.{carried_of}
-use Rattle.kz_model.specs.Journal.{params_of}
-use Rattle.kz_model.specs.Late.{own_after, IsDelayed}
-use Rattle.kz_model.specs.Local.{with_own}
-use Rattle.kz_model.specs.Play.{ZonePlay, Play, zone_play, settling, zone_settled}
-use Rattle.kz_model.specs.PlayedAt.{IsPlaySound}
-use Rattle.kz_model.specs.Rooms.{lines_on}
-use Rattle.kz_model.specs.Zone.{Own, ZoneState, nothing_own, own_of}
-use Rattle.kz_model.proofs.OrderRuns.{zeros}
-use Rattle.kz_model.proofs.PlayedAt.{lines_within}
+use Rattle.kz_model.specs.Run.Journal.{carried_of}
+use Rattle.kz_model.specs.Run.Journal.{params_of}
+use Rattle.kz_model.specs.Zone.Late.{part_after, IsDelayed}
+use Rattle.kz_model.specs.Zone.Local.{with_cpu_part}
+use Rattle.kz_laws.specs.Play.{ZonePlay, Play, zone_play, settling, zone_after_settling}
+use Rattle.kz_laws.specs.PlayedAt.{IsPlaySound}
+use Rattle.kz_model.specs.Run.Rooms.{lines_on}
+use Rattle.kz_model.specs.Zone.State.{CpuPart, ZoneState, no_cpu_part, cpu_part}
+use Rattle.kz_laws.proofs.OrderRuns.{zeros}
+use Rattle.kz_laws.proofs.PlayedAt.{lines_within}
 use Rattle.kz_model.proofs.TraceRounds.{range_push}
-use Rattle.kz_model.proofs.Undelayed.{mine_or_other, caught_up}
-use Rattle.kz_book.specs.Book.{Book, Journal, Keeps, HasRoom, carried_by, params_of as book_params}
+use Rattle.kz_laws.proofs.Undelayed.{mine_or_other, caught_up}
+use Rattle.kz_book.specs.Book.{Book, History, KeepsHistory, HasRoom, params_of as book_params}
 use Rattle.kz_book.specs.Visits.{Settles, own_now, settled_of}
 use Rattle.kz_cpu.specs.Cpu.{Cpu, IsElsewhere, cache_at, recent_at}
 use Rattle.kz_cpu.specs.Caught.{IsCaughtUp}
-use Rattle.kz_machine.specs.Looks.{no_cpu, no_book, cpu_at, book_at}
+use Rattle.kz_machine.specs.Lookups.{no_cpu, no_book, cpu_at, book_at}
 use Rattle.kz_machine.specs.Settling.{settled_below, AreSettledBelow, AreSettled}
 use Rattle.kz_machine.specs.Stands.{IsCpuAt, IsZoneAt}
 use Rattle.kz_machine.proofs.Elsewhere.{elsewhere_refl, elsewhere_trans, cpu_keeps, caught_same, set_elsewhere, zone_elsewhere}
 use Rattle.kz_machine.proofs.Fit.{steps_here}
-use Rattle.kz_machine.proofs.Ready.{carried_same}
 
 -- ---- counts and visits, CPU by CPU
 
@@ -53,15 +52,15 @@ settle_more round n late =
     ∙ filter_map-append (settling round late) (range_with_len 0 n) ((0 + n) ∷ [])
     ∙ ap (λ k. filter_map (settling round late) (range_with_len 0 n) ++ cons_option (settling round late k) []) at
 
-carried_by-append : (cpu : ℕ) (xs ys : List Visit) → carried_by cpu (xs ++ ys) ≡ carried_by cpu xs + carried_by cpu ys
-carried_by-append cpu [] ys = omega arith
-carried_by-append cpu (x ∷ xs) ys = omega (arith, carried_by-append cpu xs ys)
+carried_of-append : (cpu : ℕ) (xs ys : List Visit) → carried_of cpu (xs ++ ys) ≡ carried_of cpu xs + carried_of cpu ys
+carried_of-append cpu [] ys = omega arith
+carried_of-append cpu (x ∷ xs) ys = omega (arith, carried_of-append cpu xs ys)
 
 -- what a CPU settles is its own
-settles_own : (round n cpu : ℕ) (late : List ℕ) → carried_by cpu (cons_option (settling round late n) []) ≡ (if n == cpu then slice_index late n else 0)
+settles_own : (round n cpu : ℕ) (late : List ℕ) → carried_of cpu (cons_option (settling round late n) []) ≡ (if n == cpu then slice_index late n else 0)
 settles_own round n cpu late =
     let v : Visit = record { round = round; cpu = n; count = slice_index late n; settled = true } in
-    elim (nat_lt 0 (slice_index late n)) as (λ t. nat_lt 0 (slice_index late n) ≡ t → carried_by cpu (cons_option (if t then Some v else None) []) ≡ (if n == cpu then slice_index late n else 0)) [
+    elim (nat_lt 0 (slice_index late n)) as (λ t. nat_lt 0 (slice_index late n) ≡ t → carried_of cpu (cons_option (if t then Some v else None) []) ≡ (if n == cpu then slice_index late n else 0)) [
       | true ↦ λ e. plain (if n == cpu then slice_index late n else 0)
       | false ↦ λ e. let none : slice_index late n ≡ 0 = grind arith in elim (n == cpu) as (λ t. 0 ≡ (if t then slice_index late n else 0)) [ true ↦ sym none | false ↦ refl ]
     ] refl
@@ -76,17 +75,17 @@ pub record MaySettle (zone : ℕ) (c : Cpu) (book : Book) : Type 0 where
   pub zone_there : zone < length c.caches
   pub one_of : c.cpu < (book_params book).cpus
   pub same_params : book_params book ≡ (cache_at c zone).params
-  pub history : Journal
-  pub keeps : Keeps book history
+  pub history : History
+  pub keeps : KeepsHistory book history
   pub caught : IsCaughtUp c zone history
   pub room : HasRoom book c.cpu (length (recent_at c zone))
 
 -- A CPU has settled, or had nothing to settle.
-pub record HasTurned (p : ZoneParams) (zone n : ℕ) (c d : Cpu) (book shelf : Book) (visits : List Visit) (j next : Journal) : Type 0 where
-  pub keeps : Keeps shelf next
+pub record HasTurned (p : ZoneParams) (zone n : ℕ) (c d : Cpu) (book shelf : Book) (visits : List Visit) (j next : History) : Type 0 where
+  pub keeps : KeepsHistory shelf next
   pub caught : IsCaughtUp d zone next
   pub answers : next.answers ≡ j.answers
-  pub end : next.made.end ≡ with_own j.made.end n (own_after p (own_of j.made.end n) (recent_at c zone))
+  pub end : next.made.end ≡ with_cpu_part j.made.end n (part_after p (cpu_part j.made.end n) (recent_at c zone))
   pub recent : recent_at d zone ≡ []
   pub is_visits : shelf.visits ≡ book.visits ++ visits
   pub is_shelf : shelf ≡ record book { visits = shelf.visits }
@@ -103,7 +102,7 @@ module _ (b : Bundle) (plan : Plan) (log : List SupplyEntry) (round zone : ℕ) 
   abbrev here : IsZoneAt b plan cpus log zone book (settled_below round n z)
   here = at.here
 
-  abbrev j : Journal
+  abbrev j : History
   j = here.history
 
   lt : n < b.cpus
@@ -142,9 +141,9 @@ module _ (b : Bundle) (plan : Plan) (log : List SupplyEntry) (round zone : ℕ) 
         history = j;
         keeps = here.keeps;
         caught = caught_here;
-        room = subst (λ k. carried_by k book.visits + length (recent_at c zone) ≤ slice_index book.room.steps k) (sym number)
-            (subst (λ m. carried_by n book.visits + length (recent_at c zone) ≤ m) (sym (ap (λ (room : Room). slice_index room.steps n) here.room ∙ steps_here b plan zone n lt))
-            (subst (λ (c : Cpu). carried_by n book.visits + length (recent_at c zone) ≤ lines_on b plan zone n) same (at.rooms n lt)));
+        room = subst (λ k. carried_of k book.visits + length (recent_at c zone) ≤ slice_index book.room.steps k) (sym number)
+            (subst (λ m. carried_of n book.visits + length (recent_at c zone) ≤ m) (sym (ap (λ (room : Room). slice_index room.steps n) here.room ∙ steps_here b plan zone n lt))
+            (subst (λ (c : Cpu). carried_of n book.visits + length (recent_at c zone) ≤ lines_on b plan zone n) same (at.rooms n lt)));
       }
 
   -- it has nothing to settle
@@ -156,8 +155,8 @@ module _ (b : Bundle) (plan : Plan) (log : List SupplyEntry) (round zone : ℕ) 
         keeps = here.keeps;
         caught = caught_here;
         answers = refl;
-        end = sym (ap (λ (steps : List Step). with_own j.made.end n (own_after p (own_of j.made.end n) steps)) empty
-            ∙ ap (λ (owns : List Own). let st : ZoneState = record { shared = j.made.end.shared; own = owns } in st) (set-get_or j.made.end.own n nothing_own));
+        end = sym (ap (λ (steps : List Step). with_cpu_part j.made.end n (part_after p (cpu_part j.made.end n) steps)) empty
+            ∙ ap (λ (owns : List CpuPart). let st : ZoneState = record { shared = j.made.end.shared; own = owns } in st) (set-get_or j.made.end.own n no_cpu_part));
         recent = empty;
         is_visits = sym (ap (λ (o : Option Visit). book.visits ++ cons_option o []) (ap (λ t. if t then Some (record { round = round; cpu = n; count = slice_index z.late n; settled = true }) else None) (ap (nat_lt 0) late_is ∙ none)) ∙ append-nil book.visits);
         is_shelf = refl;
@@ -170,9 +169,9 @@ module _ (b : Bundle) (plan : Plan) (log : List SupplyEntry) (round zone : ℕ) 
 
   -- it settles
   turned_by_settling : (d : Cpu) (shelf : Book) → nat_lt 0 (length (recent_at c zone)) ≡ true → shelf ≡ record book { visits = book.visits ++ settled_of round c.cpu (recent_at c zone) ∷ [] } →
-      ((j : Journal) → Keeps book j → IsCaughtUp c zone j → (after : Journal) × Keeps shelf after × Settles (book_params book) c.cpu j after (recent_at c zone) × IsCaughtUp d zone after) →
+      ((j : History) → KeepsHistory book j → IsCaughtUp c zone j → (after : History) × KeepsHistory shelf after × Settles (book_params book) c.cpu j after (recent_at c zone) × IsCaughtUp d zone after) →
       recent_at d zone ≡ [] → IsElsewhere c d zone Flush →
-      (next : Journal) × HasTurned p zone n c d book shelf (cons_option (settling round z.late n) []) j next
+      (next : History) × HasTurned p zone n c d book shelf (cons_option (settling round z.late n) []) j next
   turned_by_settling d shelf some is settles recent elsewhere =
       let made = settles j here.keeps caught_here in
       let visits : shelf.visits ≡ book.visits ++ settled_of round c.cpu (recent_at c zone) ∷ [] = ap (λ (b : Book). b.visits) is in
@@ -186,8 +185,8 @@ module _ (b : Bundle) (plan : Plan) (log : List SupplyEntry) (round zone : ℕ) 
           caught = made.3;
           answers = made.2.answers;
           end = made.2.end
-              ∙ ap (λ (q : ZoneParams). with_own j.made.end c.cpu (own_now q j c.cpu (recent_at c zone))) params_are
-              ∙ ap (λ k. with_own j.made.end k (own_now p j k (recent_at c zone))) number;
+              ∙ ap (λ (q : ZoneParams). with_cpu_part j.made.end c.cpu (own_now q j c.cpu (recent_at c zone))) params_are
+              ∙ ap (λ k. with_cpu_part j.made.end k (own_now p j k (recent_at c zone))) number;
           recent = recent;
           is_visits = visits ∙ sym (ap (λ (o : Option Visit). book.visits ++ cons_option o []) settled);
           is_shelf = is ∙ ap (λ (l : List Visit). let b : Book = record book { visits = l } in b) (sym visits);
@@ -196,7 +195,7 @@ module _ (b : Bundle) (plan : Plan) (log : List SupplyEntry) (round zone : ℕ) 
       )
 
   -- then one CPU more has settled
-  module _ (d : Cpu) (shelf : Book) (next : Journal) (turned : HasTurned p zone n c d book shelf (cons_option (settling round z.late n) []) j next) where
+  module _ (d : Cpu) (shelf : Book) (next : History) (turned : HasTurned p zone n c d book shelf (cons_option (settling round z.late n) []) j next) where
     abbrev now : List Cpu
     now = slice_set cpus n d
 
@@ -224,13 +223,13 @@ module _ (b : Bundle) (plan : Plan) (log : List SupplyEntry) (round zone : ℕ) 
     within : n < length j.made.end.own
     within = subst (λ m. n < m) (sym cpus_alone) lt
 
-    owns_same : (k : ℕ) → k ≢ n → own_of next.made.end k ≡ own_of j.made.end k
-    owns_same k ne = ap (λ (state : ZoneState). own_of state k) turned.end ∙ get_or-set_other j.made.end.own n k (own_after p (own_of j.made.end n) (recent_at c zone)) nothing_own ne
+    owns_same : (k : ℕ) → k ≢ n → cpu_part next.made.end k ≡ cpu_part j.made.end k
+    owns_same k ne = ap (λ (state : ZoneState). cpu_part state k) turned.end ∙ get_or-set_other j.made.end.own n k (part_after p (cpu_part j.made.end n) (recent_at c zone)) no_cpu_part ne
 
     delayed_now : IsDelayed p z.state next.made.end (λ k. recent_at (cpu_at now k) zone)
     delayed_now =
-        let own : own_of z.state n ≡ own_after p (own_of j.made.end n) (recent_at c zone) = here.delayed.own n within ∙ ap (λ (steps : List Step). own_after p (own_of j.made.end n) steps) recent_same in
-        subst (λ (state : ZoneState). IsDelayed p z.state state (λ k. recent_at (cpu_at now k) zone)) (ap (λ (own : Own). with_own j.made.end n own) own ∙ sym turned.end)
+        let own : cpu_part z.state n ≡ part_after p (cpu_part j.made.end n) (recent_at c zone) = here.delayed.own n within ∙ ap (λ (steps : List Step). part_after p (cpu_part j.made.end n) steps) recent_same in
+        subst (λ (state : ZoneState). IsDelayed p z.state state (λ k. recent_at (cpu_at now k) zone)) (ap (λ (own : CpuPart). with_cpu_part j.made.end n own) own ∙ sym turned.end)
         (caught_up p z.state j.made.end (λ k. recent_at (cpu_at cpus k) zone) (λ k. recent_at (cpu_at now k) zone) n within here.delayed (record { mine = recent_mine; others = recent_other }))
 
     caught_now : (k : ℕ) → k < b.cpus → IsCaughtUp (cpu_at now k) zone next
@@ -239,7 +238,7 @@ module _ (b : Bundle) (plan : Plan) (log : List SupplyEntry) (round zone : ℕ) 
         (λ in'. subst (λ (d : Cpu). IsCaughtUp d zone next) (sym now_mine) turned.caught)
         (λ ne in'.
         let is = (at.each k in').number in
-        let own : own_of next.made.end (cpu_at cpus k).cpu ≡ own_of j.made.end (cpu_at cpus k).cpu = ap (own_of next.made.end) is ∙ owns_same k ne ∙ sym (ap (own_of j.made.end) is) in
+        let own : cpu_part next.made.end (cpu_at cpus k).cpu ≡ cpu_part j.made.end (cpu_at cpus k).cpu = ap (cpu_part next.made.end) is ∙ owns_same k ne ∙ sym (ap (cpu_part j.made.end) is) in
         subst (λ (d : Cpu). IsCaughtUp d zone next) (sym (now_other k ne)) (caught_same (cpu_at cpus k) (cpu_at cpus k) zone j next refl refl (λ own has. has) own (here.caught k in'))) in'
 
     more : n + 1 ≤ length z.late
@@ -276,25 +275,25 @@ module _ (b : Bundle) (plan : Plan) (log : List SupplyEntry) (round zone : ℕ) 
           late = late_now;
         }
 
-    rooms_now : (k : ℕ) → k < b.cpus → carried_by k shelf.visits + length (recent_at (cpu_at now k) zone) ≤ lines_on b plan zone k
+    rooms_now : (k : ℕ) → k < b.cpus → carried_of k shelf.visits + length (recent_at (cpu_at now k) zone) ≤ lines_on b plan zone k
     rooms_now k in' =
-        mine_or_other (λ k. k < b.cpus → carried_by k shelf.visits + length (recent_at (cpu_at now k) zone) ≤ lines_on b plan zone k) n k
+        mine_or_other (λ k. k < b.cpus → carried_of k shelf.visits + length (recent_at (cpu_at now k) zone) ≤ lines_on b plan zone k) n k
         (λ in'.
         let all = carried_is n in
-        let own : carried_by n (cons_option (settling round z.late n) []) ≡ slice_index z.late n = settles_own round n n z.late ∙ (let is : (n == n) ≡ true = grind arith in ap (λ t. if t then slice_index z.late n else 0) is) in
+        let own : carried_of n (cons_option (settling round z.late n) []) ≡ slice_index z.late n = settles_own round n n z.late ∙ (let is : (n == n) ≡ true = grind arith in ap (λ t. if t then slice_index z.late n else 0) is) in
         let empty = ap (λ (steps : List Step). length steps) recent_mine in
         let before = at.rooms n in' in
         let late = late_is ∙ sym (ap (λ (steps : List Step). length steps) recent_same) in
         omega (arith, all, own, empty, before, late))
         (λ ne in'.
         let all = carried_is k in
-        let own : carried_by k (cons_option (settling round z.late n) []) ≡ 0 = settles_own round n k z.late ∙ (let is : (n == k) ≡ false = grind arith in ap (λ t. if t then slice_index z.late n else 0) is) in
+        let own : carried_of k (cons_option (settling round z.late n) []) ≡ 0 = settles_own round n k z.late ∙ (let is : (n == k) ≡ false = grind arith in ap (λ t. if t then slice_index z.late n else 0) is) in
         let same = ap (λ (steps : List Step). length steps) (recent_other k ne) in
         let before = at.rooms k in' in
         omega (arith, all, own, same, before)) in'
       where
-        carried_is : (k : ℕ) → carried_by k shelf.visits ≡ carried_by k book.visits + carried_by k (cons_option (settling round z.late n) [])
-        carried_is k = ap (carried_by k) turned.is_visits ∙ carried_by-append k book.visits (cons_option (settling round z.late n) [])
+        carried_is : (k : ℕ) → carried_of k shelf.visits ≡ carried_of k book.visits + carried_of k (cons_option (settling round z.late n) [])
+        carried_is k = ap (carried_of k) turned.is_visits ∙ carried_of-append k book.visits (cons_option (settling round z.late n) [])
 
     one_more_settled : AreSettledBelow b plan log round zone z first (n + 1) now shelf
     one_more_settled =
@@ -310,7 +309,7 @@ module _ (b : Bundle) (plan : Plan) (log : List SupplyEntry) (round zone : ℕ) 
         }
 
   pub one_settled : (d : Cpu) (shelf : Book) → nat_lt 0 (length (recent_at c zone)) ≡ true → shelf ≡ record book { visits = book.visits ++ settled_of round c.cpu (recent_at c zone) ∷ [] } →
-      ((j : Journal) → Keeps book j → IsCaughtUp c zone j → (after : Journal) × Keeps shelf after × Settles (book_params book) c.cpu j after (recent_at c zone) × IsCaughtUp d zone after) →
+      ((j : History) → KeepsHistory book j → IsCaughtUp c zone j → (after : History) × KeepsHistory shelf after × Settles (book_params book) c.cpu j after (recent_at c zone) × IsCaughtUp d zone after) →
       recent_at d zone ≡ [] → IsElsewhere c d zone Flush → AreSettledBelow b plan log round zone z first (n + 1) (slice_set cpus n d) shelf
   one_settled d shelf some is settles recent elsewhere = let turned = turned_by_settling d shelf some is settles recent elsewhere in one_more_settled d shelf turned.0 turned.1
 
@@ -322,7 +321,7 @@ module _ (b : Bundle) (plan : Plan) (log : List SupplyEntry) (round zone : ℕ) 
 none_settled : (round : ℕ) (z : ZonePlay) → settled_below round 0 z ≡ z
 none_settled round z = ap (λ (visits : List Visit). let y : ZonePlay = record z { visits = visits } in y) (append-nil z.visits)
 
-all_settled : (round cpus : ℕ) (z : ZonePlay) → length z.late ≡ cpus → settled_below round cpus z ≡ zone_settled round cpus z
+all_settled : (round cpus : ℕ) (z : ZonePlay) → length z.late ≡ cpus → settled_below round cpus z ≡ zone_after_settling round cpus z
 all_settled round cpus z long =
     let none : drop cpus z.late ≡ [] = drop_all cpus z.late (omega arith) in
     ap (λ (late : List ℕ). let y : ZonePlay = record z { visits = z.visits ++ filter_map (settling round z.late) (range_with_len 0 cpus); late = late } in y) (ap (λ (l : List ℕ). replicate cpus 0 ++ l) none ∙ append-nil (replicate cpus 0))
@@ -347,7 +346,7 @@ module _ (b : Bundle) (plan : Plan) (s : Play) (n : ℕ) (cpus : List Cpu) (book
         each = at.each;
         here = subst (λ (y : ZonePlay). IsZoneAt b plan cpus s.log n (book_at books n) y) (sym (none_settled s.round next_zone)) next_here;
         rooms = λ cpu in'.
-            let visits : carried_by cpu (book_at books n).visits ≡ carried_of cpu next_zone.visits = carried_same cpu (book_at books n).visits ∙ ap (carried_of cpu) next_here.visits in
+            let visits : carried_of cpu (book_at books n).visits ≡ carried_of cpu next_zone.visits = ap (carried_of cpu) next_here.visits in
             let late = next_here.late cpu in' in
             let all = (sound.each n next-in-zones).carried cpu in' in
             let most = lines_within b plan s n cpu in
@@ -369,11 +368,11 @@ module _ (b : Bundle) (plan : Plan) (s : Play) (n : ℕ) (cpus : List Cpu) (book
         books_long = length-set books n shelf ∙ at.books_long;
         each = is.each;
         done = λ zone below in'.
-            mine_or_other (λ zone. zone < n + 1 → zone < length plan.zones → IsZoneAt b plan now s.log zone (book_at (slice_set books n shelf) zone) (zone_settled s.round b.cpus (zone_play s zone))) n zone
-            (λ below in'. subst (λ (book : Book). IsZoneAt b plan now s.log n book (zone_settled s.round b.cpus next_zone)) (sym (get_or-set_same books n shelf no_book lt))
+            mine_or_other (λ zone. zone < n + 1 → zone < length plan.zones → IsZoneAt b plan now s.log zone (book_at (slice_set books n shelf) zone) (zone_after_settling s.round b.cpus (zone_play s zone))) n zone
+            (λ below in'. subst (λ (book : Book). IsZoneAt b plan now s.log n book (zone_after_settling s.round b.cpus next_zone)) (sym (get_or-set_same books n shelf no_book lt))
             (subst (λ (y : ZonePlay). IsZoneAt b plan now s.log n shelf y) (all_settled s.round b.cpus next_zone is.late_long) is.here))
-            (λ ne below in'. subst (λ (book : Book). IsZoneAt b plan now s.log zone book (zone_settled s.round b.cpus (zone_play s zone))) (sym (get_or-set_other books n zone shelf no_book ne))
-            (zone_elsewhere b plan cpus now s.log s.log n zone Flush (book_at books zone) (zone_settled s.round b.cpus (zone_play s zone)) ne refl is.elsewhere (at.done zone (omega arith) in')))
+            (λ ne below in'. subst (λ (book : Book). IsZoneAt b plan now s.log zone book (zone_after_settling s.round b.cpus (zone_play s zone))) (sym (get_or-set_other books n zone shelf no_book ne))
+            (zone_elsewhere b plan cpus now s.log s.log n zone Flush (book_at books zone) (zone_after_settling s.round b.cpus (zone_play s zone)) ne refl is.elsewhere (at.done zone (omega arith) in')))
             below in';
         rest = λ zone above in'.
             let ne : zone ≢ n = λ same. absurd (omega arith) in

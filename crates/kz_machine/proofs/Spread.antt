@@ -10,10 +10,10 @@ use Rattle.kz_model.specs.declared.supply.Ask.{Ask}
 use Rattle.kz_model.specs.declared.supply.Ask.TheVariants.{Chunk, Frames, Back}
 use Rattle.kz_model.specs.declared.supply.Answer.{Answer}
 use Rattle.kz_model.specs.declared.supply.Answer.TheVariants.{Base, Given, NoSpace, NoFrames}
-use Rattle.kz_model.specs.Addresses.{IsForZone}
-use Rattle.kz_model.specs.Amounts.{sum_below}
-use Rattle.kz_model.specs.Report.{page_of, bases}
-use Rattle.kz_model.specs.Supply.{Stock, pages_left, answer_of, stock_after, answers_from}
+use Rattle.kz_laws.specs.Addresses.{IsForZone}
+use Rattle.kz_model.specs.Run.Rooms.{sum_below}
+use Rattle.kz_model.specs.Run.Journal.{page_of, bases}
+use Rattle.kz_model.specs.Run.Supply.{Stock, pages_left, answer_of, stock_after, answers_from}
 use Rattle.kz_model.proofs.Sums.{sum_below-zero, sum_below-set}
 use Rattle.kz_machine.proofs.Cursors.{same_heads, asks, answers, chunks_first}
 
@@ -95,16 +95,16 @@ pages_spread params n pages [] stock lt within own is = let none = sum_below-zer
     no_chunk q = omega arith
 pages_spread params n pages (entry ∷ log) stock lt within own is =
     let Within : SupplyEntry → Type 0 = λ entry. entry.zone < n in
-    let Own : SupplyEntry → Type 0 = λ entry. IsForZone (params entry.zone) entry.ask in
+    let CpuPart : SupplyEntry → Type 0 = λ entry. IsForZone (params entry.zone) entry.ask in
     let p = params entry.zone in
     let below = All-head Within entry log within in
     let first = answer_of pages stock entry.ask in
     let heads = same_heads entry.answer first (answers log) (answers_from pages (stock_after stock entry.ask first) (asks log)) is in
-    let one : Lifts p stock entry.ask entry.answer = subst (λ (a : Answer). Lifts p stock entry.ask a) (sym heads.0) (lifts p pages stock entry.ask (lt entry.zone below) (All-head Own entry log own)) in
+    let one : Lifts p stock entry.ask entry.answer = subst (λ (a : Answer). Lifts p stock entry.ask a) (sym heads.0) (lifts p pages stock entry.ask (lt entry.zone below) (All-head CpuPart entry log own)) in
     let next = stock_after stock entry.ask entry.answer in
     let rest = pages_spread params n pages log next
     (λ zone below. subst (λ n. (params zone).submap < n) (sym one.size) (lt zone below))
-    (All-tail Within entry log within) (All-tail Own entry log own)
+    (All-tail Within entry log within) (All-tail CpuPart entry log own)
     (heads.1 ∙ ap (λ (a : Answer). answers_from pages (stock_after stock entry.ask a) (asks log)) (sym heads.0)) in
     added (sum stock.cursors) (sum next.cursors) _ (sum_below (chunk_pages params log) n) (sum_below (chunk_pages params (entry ∷ log)) n) (p.pages * length (cons_option (page_of entry.answer) [])) one.lifted (first_adds params n entry log below) rest
   where

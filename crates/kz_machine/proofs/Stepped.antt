@@ -12,31 +12,31 @@ use Rattle.kz_model.specs.declared.step.Step.{Step}
 use Rattle.kz_model.specs.declared.supply.Answer.{Answer}
 use Rattle.kz_model.specs.declared.supply.Ask.{Ask}
 use Rattle.kz_model.specs.declared.supply.SupplyEntry.{SupplyEntry}
-use Rattle.kz_model.specs.Addresses.{IsForZone}
-use Rattle.kz_model.specs.Journal.{params_of, trace_of, answers_at}
-use Rattle.kz_model.specs.Late.{IsDelayed}
-use Rattle.kz_model.specs.Local.{local_answer, with_own, as_effect}
-use Rattle.kz_model.specs.Order.{answered}
-use Rattle.kz_model.specs.Play.{ZonePlay, Play, no_play, zone_play, replies_so_far, zone_after, asked, effect_there, played}
-use Rattle.kz_model.specs.Rules.{Effect, Part, needs_visit, asks_of, effect_of}
-use Rattle.kz_model.specs.Zone.{Shared, Own, ZoneState, own_of}
+use Rattle.kz_laws.specs.Addresses.{IsForZone}
+use Rattle.kz_model.specs.Run.Journal.{params_of, trace_of, answers_at}
+use Rattle.kz_model.specs.Zone.Late.{IsDelayed}
+use Rattle.kz_model.specs.Zone.Local.{local_answer, with_cpu_part, as_effect}
+use Rattle.kz_model.specs.Run.Order.{answered}
+use Rattle.kz_laws.specs.Play.{ZonePlay, Play, no_play, zone_play, replies_so_far, zone_after, asked, effect_there, play_after_step}
+use Rattle.kz_model.specs.Zone.Rules.{Effect, Part, needs_visit, asks_of, effect_of}
+use Rattle.kz_model.specs.Zone.State.{Shared, CpuPart, ZoneState, cpu_part}
 use Rattle.kz_model.proofs.Delays.{no_asks, effect_is_local}
-use Rattle.kz_model.proofs.OrderLines.{answers_at-append, entries_elsewhere, new_answers}
-use Rattle.kz_model.proofs.Stocks.{log_here}
-use Rattle.kz_model.proofs.Undelayed.{IsLateNow, mine_or_other, one_more_late, caught_up, both_step}
+use Rattle.kz_laws.proofs.OrderLines.{answers_at-append, entries_elsewhere, new_answers}
+use Rattle.kz_laws.proofs.Stocks.{log_here}
+use Rattle.kz_laws.proofs.Undelayed.{IsLateNow, mine_or_other, one_more_late, caught_up, both_step}
 use Rattle.kz_supply.specs.Exchange.{Exchange, ask_of, answer_of, entries_of}
 use Rattle.kz_supply.specs.Thin.{ThinSupply, thin_with_exchanges}
-use Rattle.kz_book.specs.Book.{Book, Journal}
+use Rattle.kz_book.specs.Book.{Book, History}
 use Rattle.kz_book.specs.Visits.{own_now, visit_of}
 use Rattle.kz_cpu.specs.Cpu.{Cpu, recent_at}
 use Rattle.kz_cpu.specs.Caught.{IsCaughtUp}
-use Rattle.kz_model.specs.Replies.{ReplySheet}
-use Rattle.kz_machine.specs.Blank.{no_replies}
+use Rattle.kz_model.specs.Store.Replies.{RepliesSoFar}
+use Rattle.kz_machine.specs.RecordRoom.{no_replies}
 use Rattle.kz_machine.specs.Needs.{needed_rooms, allocations_of, most_entries, frames_needed}
-use Rattle.kz_machine.specs.Looks.{no_cpu, no_book, cpu_at, book_at}
+use Rattle.kz_machine.specs.Lookups.{no_cpu, no_book, cpu_at, book_at}
 use Rattle.kz_machine.specs.Machine.{Machine, replies_at}
-use Rattle.kz_machine.specs.Stands.{IsCpuAt, IsZoneAt, IsAt, IsTurn}
-use Rattle.kz_machine.specs.Steps.{Side, side, Does, own_here, needs_here, effect_here, end_with}
+use Rattle.kz_machine.specs.Stands.{IsCpuAt, IsZoneAt, StandsForPlay, IsTurn}
+use Rattle.kz_machine.specs.Steps.{Parties, parties, IsStepDone, own_here, needs_here, effect_here, end_with}
 use Rattle.kz_machine.proofs.Elsewhere.{cpu_keeps, caught_same, set_elsewhere, zone_elsewhere}
 use Rattle.kz_machine.proofs.OwnAsks.{step_entries_own}
 use Rattle.kz_machine.proofs.Ready.{is_cpu, in_zones, zone_of_name_is}
@@ -46,10 +46,10 @@ entries_answers : (zone : ℕ) (exchanges : List Exchange) → map (λ (entry : 
 entries_answers zone [] = refl
 entries_answers zone (e ∷ es) = ap (λ l. e.1 ∷ l) (entries_answers zone es)
 
-module _ (b : Bundle) (plan : Plan) (m : Machine) (s : Play) (cpu zone : ℕ) (step : Step) (at : IsAt b plan m s) (turn : IsTurn b plan s cpu zone step)
-    (d : Cpu) (shelf : Book) (supply : ThinSupply) (told : ReplySheet) (reply : Reply) (next : Journal) (exchanges : List Exchange)
+module _ (b : Bundle) (plan : Plan) (m : Machine) (s : Play) (cpu zone : ℕ) (step : Step) (at : StandsForPlay b plan m s) (turn : IsTurn b plan s cpu zone step)
+    (d : Cpu) (shelf : Book) (supply : ThinSupply) (told : RepliesSoFar) (reply : Reply) (next : History) (exchanges : List Exchange)
     (does : let in-zones = in_zones b plan m s cpu zone step at turn in
-    Does (params_of b plan zone) m.round (side (cpu_at m.cpus cpu) (book_at m.books zone) m.supply) (side d shelf supply) step reply (at.zones zone in-zones).history next exchanges)
+    IsStepDone (params_of b plan zone) m.round (parties (cpu_at m.cpus cpu) (book_at m.books zone) m.supply) (parties d shelf supply) step reply (at.zones zone in-zones).history next exchanges)
     (items : told.items ≡ (replies_at m.replies cpu).items ++ reply ∷ []) (room : (replies_at m.replies cpu).room ≤ told.room) where
   abbrev p : ZoneParams
   p = params_of b plan zone
@@ -60,14 +60,14 @@ module _ (b : Bundle) (plan : Plan) (m : Machine) (s : Play) (cpu zone : ℕ) (s
   abbrev book : Book
   book = book_at m.books zone
 
-  abbrev old : Side
-  old = side c book m.supply
+  abbrev old : Parties
+  old = parties c book m.supply
 
   abbrev z : ZonePlay
   z = zone_play s zone
 
   abbrev t : Play
-  t = played b plan s cpu zone step
+  t = play_after_step b plan s cpu zone step
 
   lt : cpu < b.cpus
   lt = is_cpu b plan m s cpu zone step at turn
@@ -81,11 +81,11 @@ module _ (b : Bundle) (plan : Plan) (m : Machine) (s : Play) (cpu zone : ℕ) (s
   abbrev there : IsZoneAt b plan m.cpus s.log zone book z
   there = at.zones zone there-in
 
-  abbrev j : Journal
+  abbrev j : History
   j = there.history
 
-  abbrev own : Own
-  own = own_of z.state cpu
+  abbrev own : CpuPart
+  own = cpu_part z.state cpu
 
   abbrev needs : Bool
   needs = needs_visit p own step
@@ -111,14 +111,14 @@ module _ (b : Bundle) (plan : Plan) (m : Machine) (s : Play) (cpu zone : ℕ) (s
   own_is = ap (λ n. own_now p j n recent) here.number ∙ sym (there.delayed.own cpu within)
 
   needs_is : needs_here p old j step ≡ needs
-  needs_is = ap (λ (own : Own). needs_visit p own step) own_is
+  needs_is = ap (λ (own : CpuPart). needs_visit p own step) own_is
 
   asks_are : map ask_of exchanges ≡ asks
   asks_are =
       does.asks
       ∙ ap (λ n. asks_of p j.made.end.shared n (own_here p old j) step) here.number
       ∙ ap (λ (s : Shared). asks_of p s cpu (own_here p old j) step) (sym there.delayed.shared)
-      ∙ ap (λ (own : Own). asks_of p z.state.shared cpu own step) own_is
+      ∙ ap (λ (own : CpuPart). asks_of p z.state.shared cpu own step) own_is
 
   entries_are : entries_of zone exchanges ≡ asked b plan s cpu zone step
   entries_are =
@@ -133,7 +133,7 @@ module _ (b : Bundle) (plan : Plan) (m : Machine) (s : Play) (cpu zone : ℕ) (s
   effect_is =
       ap (λ n. effect_of p j.made.end.shared n (own_here p old j) step (map answer_of exchanges)) here.number
       ∙ ap (λ (s : Shared). effect_of p s cpu (own_here p old j) step (map answer_of exchanges)) (sym there.delayed.shared)
-      ∙ ap (λ (own : Own). effect_of p z.state.shared cpu own step (map answer_of exchanges)) own_is
+      ∙ ap (λ (own : CpuPart). effect_of p z.state.shared cpu own step (map answer_of exchanges)) own_is
       ∙ ap (λ (answers : List Answer). effect_of p z.state.shared cpu own step answers) (sym answers_are)
 
   pub reply_is : reply ≡ effect.reply
@@ -208,10 +208,10 @@ module _ (b : Bundle) (plan : Plan) (m : Machine) (s : Play) (cpu zone : ℕ) (s
       ∙ ap (λ n. if needs then z.visits ++ (let v : Visit = record { round = s.round; cpu = cpu; count = n + 1; settled = false } in v) ∷ [] else z.visits) (sym late_is)
 
   -- each other CPU has what it had
-  owns_same : (k : ℕ) → k ≢ cpu → own_of next.made.end k ≡ own_of j.made.end k
-  owns_same k ne = ap (λ (state : ZoneState). own_of state k) end_is ∙ by_needs needs
+  owns_same : (k : ℕ) → k ≢ cpu → cpu_part next.made.end k ≡ cpu_part j.made.end k
+  owns_same k ne = ap (λ (state : ZoneState). cpu_part state k) end_is ∙ by_needs needs
     where
-      by_needs : (needs : Bool) → own_of (if needs then record { shared = effect.shared; own = slice_set j.made.end.own cpu effect.own } else j.made.end) k ≡ own_of j.made.end k
+      by_needs : (needs : Bool) → cpu_part (if needs then record { shared = effect.shared; own = slice_set j.made.end.own cpu effect.own } else j.made.end) k ≡ cpu_part j.made.end k
       by_needs true = get_or-set_other j.made.end.own cpu k effect.own _ ne
       by_needs false = refl
 
@@ -226,10 +226,10 @@ module _ (b : Bundle) (plan : Plan) (m : Machine) (s : Play) (cpu zone : ℕ) (s
       by_needs : (t : Bool) → needs ≡ t → IsLateNow cpu (if t then [] else recent ++ step ∷ []) (λ k. recent_at (cpu_at m.cpus k) zone) (λ k. recent_at (cpu_at now k) zone) →
           IsDelayed p (record { shared = effect.shared; own = slice_set z.state.own cpu effect.own }) (if t then record { shared = effect.shared; own = slice_set j.made.end.own cpu effect.own } else j.made.end) (λ k. recent_at (cpu_at now k) zone)
       by_needs true is new =
-          let mid = with_own j.made.end cpu own in
+          let mid = with_cpu_part j.made.end cpu own in
           let part : Part = record { effect = effect; asks = []; left = [] } in
           let long : cpu < length mid.own = subst (λ n. cpu < n) (sym (length-set j.made.end.own cpu own)) within in
-          subst (λ (owns : List Own). IsDelayed p (record { shared = effect.shared; own = slice_set z.state.own cpu effect.own }) (record { shared = effect.shared; own = owns }) (λ k. recent_at (cpu_at now k) zone))
+          subst (λ (owns : List CpuPart). IsDelayed p (record { shared = effect.shared; own = slice_set z.state.own cpu effect.own }) (record { shared = effect.shared; own = owns }) (λ k. recent_at (cpu_at now k) zone))
           (set-set j.made.end.own cpu own effect.own)
           (both_step p z.state mid (λ k. recent_at (cpu_at now k) zone) cpu part long
           (caught_up p z.state j.made.end (λ k. recent_at (cpu_at m.cpus k) zone) (λ k. recent_at (cpu_at now k) zone) cpu within there.delayed new) new.mine)
@@ -243,7 +243,7 @@ module _ (b : Bundle) (plan : Plan) (m : Machine) (s : Play) (cpu zone : ℕ) (s
       (λ in'. subst (λ (d : Cpu). IsCaughtUp d zone next) (sym now_mine) does.caught)
       (λ ne in'.
       let number = (at.cpus k in').number in
-      let same : own_of next.made.end (cpu_at m.cpus k).cpu ≡ own_of j.made.end (cpu_at m.cpus k).cpu = ap (own_of next.made.end) number ∙ owns_same k ne ∙ sym (ap (own_of j.made.end) number) in
+      let same : cpu_part next.made.end (cpu_at m.cpus k).cpu ≡ cpu_part j.made.end (cpu_at m.cpus k).cpu = ap (cpu_part next.made.end) number ∙ owns_same k ne ∙ sym (ap (cpu_part j.made.end) number) in
       subst (λ (d : Cpu). IsCaughtUp d zone next) (sym (now_other k ne)) (caught_same (cpu_at m.cpus k) (cpu_at m.cpus k) zone j next refl refl (λ own has. has) same (there.caught k in'))) in'
 
   late_after : (k : ℕ) → k < b.cpus → slice_index after.late k ≡ length (recent_at (cpu_at now k) zone)
@@ -283,30 +283,30 @@ module _ (b : Bundle) (plan : Plan) (m : Machine) (s : Play) (cpu zone : ℕ) (s
 
   -- ---- the replies
 
-  abbrev replies : List ReplySheet
+  abbrev replies : List RepliesSoFar
   replies = slice_set m.replies cpu told
 
   there-told : cpu < length m.replies
-  there-told = subst (λ n. cpu < n) (sym (sym (length-map m.replies (λ (r : ReplySheet). r.items)) ∙ ap (λ (l : List (List Reply)). length l) at.replies ∙ turn.sound.cpus)) lt
+  there-told = subst (λ n. cpu < n) (sym (sym (length-map m.replies (λ (r : RepliesSoFar). r.items)) ∙ ap (λ (l : List (List Reply)). length l) at.replies ∙ turn.sound.cpus)) lt
 
   replies_mine : (replies_at m.replies cpu).items ≡ replies_so_far s cpu
-  replies_mine = sym (get_or-map (λ (r : ReplySheet). r.items) m.replies cpu no_replies [] there-told) ∙ ap (λ (l : List (List Reply)). slice_index_or l cpu []) at.replies
+  replies_mine = sym (get_or-map (λ (r : RepliesSoFar). r.items) m.replies cpu no_replies [] there-told) ∙ ap (λ (l : List (List Reply)). slice_index_or l cpu []) at.replies
 
-  replies_now : map (λ (r : ReplySheet). r.items) replies ≡ t.replies
+  replies_now : map (λ (r : RepliesSoFar). r.items) replies ≡ t.replies
   replies_now =
-      map-set (λ (r : ReplySheet). r.items) m.replies cpu told
+      map-set (λ (r : RepliesSoFar). r.items) m.replies cpu told
       ∙ ap (λ (l : List (List Reply)). slice_set l cpu told.items) at.replies
       ∙ ap (λ (l : List Reply). slice_set s.replies cpu l) (items ∙ ap (λ (l : List Reply). l ++ reply ∷ []) replies_mine ∙ ap (λ (r : Reply). replies_so_far s cpu ++ r ∷ []) reply_is)
 
   places_now : (k : ℕ) → k < b.cpus → length (trace_of b k) ≤ (replies_at replies k).room
   places_now k in' =
       mine_or_other (λ k. k < b.cpus → length (trace_of b k) ≤ (replies_at replies k).room) cpu k
-      (λ in'. let is : (replies_at replies cpu).room ≡ told.room = ap (λ (r : ReplySheet). r.room) (get_or-set_same m.replies cpu told no_replies there-told) in let was = at.places cpu in' in omega arith)
-      (λ ne in'. let is : (replies_at replies k).room ≡ (replies_at m.replies k).room = ap (λ (r : ReplySheet). r.room) (get_or-set_other m.replies cpu k told no_replies ne) in let was = at.places k in' in omega arith) in'
+      (λ in'. let is : (replies_at replies cpu).room ≡ told.room = ap (λ (r : RepliesSoFar). r.room) (get_or-set_same m.replies cpu told no_replies there-told) in let was = at.places cpu in' in omega arith)
+      (λ ne in'. let is : (replies_at replies k).room ≡ (replies_at m.replies k).room = ap (λ (r : RepliesSoFar). r.room) (get_or-set_other m.replies cpu k told no_replies ne) in let was = at.places k in' in omega arith) in'
 
   -- ---- the machine
 
-  pub step_keeps : IsAt b plan (record m { cpus = now; books = slice_set m.books zone shelf; supply = supply; replies = replies }) t
+  pub step_keeps : StandsForPlay b plan (record m { cpus = now; books = slice_set m.books zone shelf; supply = supply; replies = replies }) t
   step_keeps =
       record {
         planned = at.planned;
@@ -323,5 +323,5 @@ module _ (b : Bundle) (plan : Plan) (m : Machine) (s : Play) (cpu zone : ℕ) (s
         books_long = length-set m.books zone shelf ∙ at.books_long;
         cpus = cpus_now;
         zones = zones_now;
-        blank = at.blank;
+        record_room = at.record_room;
       }

@@ -6,20 +6,20 @@ use Rattle.kz_model.specs.declared.record.ZoneParams.{ZoneParams}
 use Rattle.kz_model.specs.declared.step.Step.{Step}
 use Rattle.kz_model.specs.declared.step.Reply.{Reply}
 use Rattle.kz_model.specs.declared.supply.SupplyEntry.{SupplyEntry}
-use Rattle.kz_model.specs.Late.{NeedNone, own_after}
-use Rattle.kz_model.specs.Local.{local_answer}
-use Rattle.kz_model.specs.Order.{answered}
-use Rattle.kz_model.specs.Rules.{Effect, needs_visit}
-use Rattle.kz_model.specs.Zone.{Own, own_of}
+use Rattle.kz_model.specs.Zone.Late.{NeedNone, part_after}
+use Rattle.kz_model.specs.Zone.Local.{local_answer}
+use Rattle.kz_model.specs.Run.Order.{answered}
+use Rattle.kz_model.specs.Zone.Rules.{Effect, needs_visit}
+use Rattle.kz_model.specs.Zone.State.{CpuPart, cpu_part}
 use Rattle.kz_model.proofs.Delays.{no_asks, effect_is_local}
-use Rattle.kz_model.proofs.LateSteps.{need_none-push, own_after-push}
+use Rattle.kz_model.proofs.LateSteps.{need_none-push, part_after-push}
 use Rattle.kz_supply.specs.Exchange.{Exchange, ask_of, entries_of}
 use Rattle.kz_supply.specs.Thin.{thin_with_exchanges}
-use Rattle.kz_book.specs.Book.{Journal, Keeps, params_of}
+use Rattle.kz_book.specs.Book.{History, KeepsHistory, params_of}
 use Rattle.kz_book.specs.Visits.{Extends, own_now, visit_of}
 use Rattle.kz_cpu.specs.Cpu.{Cpu, Has, IsElsewhere, cache_at, recent_at}
 use Rattle.kz_cpu.specs.Caught.{IsCaughtUp}
-use Rattle.kz_machine.specs.Steps.{Side, side, IsReady, Does, needs_here, own_here, effect_here}
+use Rattle.kz_machine.specs.Steps.{Parties, parties, IsReady, IsStepDone, needs_here, own_here, effect_here}
 
 -- a test that is known
 when_true : {A : Type 0} (b : Bool) (x y : A) → b ≡ true → (if b then x else y) ≡ x
@@ -32,15 +32,15 @@ when_false true x y e = absurd (cc)
 
 -- ---- a step that the CPU does by itself
 
-module _ (p : ZoneParams) (round : ℕ) (old : Side) (cpu : Cpu) (step : Step) (reply : Reply) (ready : IsReady p old step)
-    (needs : (own : Own) → Has old.cpu p.zone own → false ≡ needs_visit (cache_at old.cpu p.zone).params own step)
-    (replies : (own : Own) → Has old.cpu p.zone own → reply ≡ (local_answer (cache_at old.cpu p.zone).params own step).reply)
-    (has : (own : Own) → Has old.cpu p.zone own → Has cpu p.zone (local_answer (cache_at old.cpu p.zone).params own step).own)
-    (recent : recent_at cpu p.zone ≡ recent_at old.cpu p.zone ++ step ∷ []) (elsewhere : IsElsewhere old.cpu cpu p.zone step) (j : Journal) (keeps : Keeps old.book j) (caught : IsCaughtUp old.cpu p.zone j) where
+module _ (p : ZoneParams) (round : ℕ) (old : Parties) (cpu : Cpu) (step : Step) (reply : Reply) (ready : IsReady p old step)
+    (needs : (own : CpuPart) → Has old.cpu p.zone own → false ≡ needs_visit (cache_at old.cpu p.zone).params own step)
+    (replies : (own : CpuPart) → Has old.cpu p.zone own → reply ≡ (local_answer (cache_at old.cpu p.zone).params own step).reply)
+    (has : (own : CpuPart) → Has old.cpu p.zone own → Has cpu p.zone (local_answer (cache_at old.cpu p.zone).params own step).own)
+    (recent : recent_at cpu p.zone ≡ recent_at old.cpu p.zone ++ step ∷ []) (elsewhere : IsElsewhere old.cpu cpu p.zone step) (j : History) (keeps : KeepsHistory old.book j) (caught : IsCaughtUp old.cpu p.zone j) where
   abbrev q : ZoneParams
   q = (cache_at old.cpu p.zone).params
 
-  abbrev own : Own
+  abbrev own : CpuPart
   own = own_now q j old.cpu.cpu (recent_at old.cpu p.zone)
 
   own_is : own ≡ own_here p old j
@@ -50,29 +50,29 @@ module _ (p : ZoneParams) (round : ℕ) (old : Side) (cpu : Cpu) (step : Step) (
   none = sym (needs own caught.has)
 
   none_here : needs_here p old j step ≡ false
-  none_here = ap (λ (own : Own). needs_visit p own step) (sym own_is) ∙ ap (λ (q : ZoneParams). needs_visit q own step) (sym ready.cache) ∙ none
+  none_here = ap (λ (own : CpuPart). needs_visit p own step) (sym own_is) ∙ ap (λ (q : ZoneParams). needs_visit q own step) (sym ready.cache) ∙ none
 
   caught_now : IsCaughtUp cpu p.zone j
   caught_now =
-      let first = own_of j.made.end old.cpu.cpu in
+      let first = cpu_part j.made.end old.cpu.cpu in
       let late = recent_at old.cpu p.zone in
       let none_late : NeedNone q first (late ++ step ∷ []) = need_none-push q first late step caught.none none in
-      let has_late : Has cpu p.zone (own_after q first (late ++ step ∷ [])) = subst (λ (own : Own). Has cpu p.zone own) (sym (own_after-push q first late step)) (has own caught.has) in
+      let has_late : Has cpu p.zone (part_after q first (late ++ step ∷ [])) = subst (λ (own : CpuPart). Has cpu p.zone own) (sym (part_after-push q first late step)) (has own caught.has) in
       record {
-        none = subst (λ (q : ZoneParams). NeedNone q (own_of j.made.end cpu.cpu) (recent_at cpu p.zone)) (sym elsewhere.params)
-            (subst (λ n. NeedNone q (own_of j.made.end n) (recent_at cpu p.zone)) (sym elsewhere.cpu) (subst (λ (steps : List Step). NeedNone q first steps) (sym recent) none_late));
+        none = subst (λ (q : ZoneParams). NeedNone q (cpu_part j.made.end cpu.cpu) (recent_at cpu p.zone)) (sym elsewhere.params)
+            (subst (λ n. NeedNone q (cpu_part j.made.end n) (recent_at cpu p.zone)) (sym elsewhere.cpu) (subst (λ (steps : List Step). NeedNone q first steps) (sym recent) none_late));
         has = subst (λ (q : ZoneParams). Has cpu p.zone (own_now q j cpu.cpu (recent_at cpu p.zone))) (sym elsewhere.params)
-            (subst (λ n. Has cpu p.zone (own_now q j n (recent_at cpu p.zone))) (sym elsewhere.cpu) (subst (λ (steps : List Step). Has cpu p.zone (own_after q first steps)) (sym recent) has_late));
+            (subst (λ n. Has cpu p.zone (own_now q j n (recent_at cpu p.zone))) (sym elsewhere.cpu) (subst (λ (steps : List Step). Has cpu p.zone (part_after q first steps)) (sym recent) has_late));
       }
 
   reply_is : reply ≡ (effect_here p old j step []).reply
   reply_is =
       replies own caught.has
       ∙ ap (λ (q : ZoneParams). (local_answer q own step).reply) ready.cache
-      ∙ ap (λ (own : Own). (local_answer p own step).reply) own_is
+      ∙ ap (λ (own : CpuPart). (local_answer p own step).reply) own_is
       ∙ sym (ap (λ (e : Effect). e.reply) (effect_is_local p j.made.end.shared old.cpu.cpu (own_here p old j) step none_here))
 
-  pub late_does : (after : Journal) × (exchanges : List Exchange) × Does p round old (side cpu old.book old.supply) step reply j after exchanges
+  pub late_does : (after : History) × (exchanges : List Exchange) × IsStepDone p round old (parties cpu old.book old.supply) step reply j after exchanges
   late_does = (
     j,
     [],
@@ -96,15 +96,15 @@ module _ (p : ZoneParams) (round : ℕ) (old : Side) (cpu : Cpu) (step : Step) (
 
 -- ---- a visit
 
-pub visit_does : (p : ZoneParams) (round : ℕ) (old new : Side) (step : Step) (reply : Reply) (exchanges : List Exchange) → IsReady p old step →
-    ((j : Journal) → Keeps old.book j → IsCaughtUp old.cpu p.zone j → needs_here p old j step ≡ true) →
+pub visit_does : (p : ZoneParams) (round : ℕ) (old new : Parties) (step : Step) (reply : Reply) (exchanges : List Exchange) → IsReady p old step →
+    ((j : History) → KeepsHistory old.book j → IsCaughtUp old.cpu p.zone j → needs_here p old j step ≡ true) →
     new.supply ≡ thin_with_exchanges p.zone exchanges old.supply →
     ((b : Bundle) → old.supply.counted.frames ≡ b.frames → old.supply.counted.pages ≡ b.pages → entries_of p.zone exchanges ≡ answered b p.zone old.supply.counted.log (map ask_of exchanges)) →
     new.book.visits ≡ old.book.visits ++ visit_of round old.cpu.cpu (recent_at old.cpu p.zone) ∷ [] → new.book.room ≡ old.book.room → new.book.zone.most_chunks ≡ old.book.zone.most_chunks → new.book.zone.most_gifts ≡ old.book.zone.most_gifts →
-    ((j : Journal) → Keeps old.book j → IsCaughtUp old.cpu p.zone j →
-    (after : Journal) × Keeps new.book after × Extends (params_of old.book) old.cpu.cpu j after (recent_at old.cpu p.zone) step reply exchanges × IsCaughtUp new.cpu p.zone after) →
+    ((j : History) → KeepsHistory old.book j → IsCaughtUp old.cpu p.zone j →
+    (after : History) × KeepsHistory new.book after × Extends (params_of old.book) old.cpu.cpu j after (recent_at old.cpu p.zone) step reply exchanges × IsCaughtUp new.cpu p.zone after) →
     recent_at new.cpu p.zone ≡ [] → IsElsewhere old.cpu new.cpu p.zone step →
-    (j : Journal) → Keeps old.book j → IsCaughtUp old.cpu p.zone j → (after : Journal) × (exchanges : List Exchange) × Does p round old new step reply j after exchanges
+    (j : History) → KeepsHistory old.book j → IsCaughtUp old.cpu p.zone j → (after : History) × (exchanges : List Exchange) × IsStepDone p round old new step reply j after exchanges
 visit_does p round old new step reply exchanges ready needs supply answers visits room most_chunks most_gifts extends recent elsewhere j keeps caught =
     let made = extends j keeps caught in
     let is : needs_here p old j step ≡ true = needs j keeps caught in

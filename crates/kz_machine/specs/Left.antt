@@ -6,24 +6,25 @@ use Rattle.kz_model.specs.declared.bundle.OrderLine.{OrderLine}
 use Rattle.kz_model.specs.declared.bundle.OrderLine.TheVariants.{Cpu, Round}
 use Rattle.kz_model.specs.declared.bundle.TraceStep.{TraceStep}
 use Rattle.kz_model.specs.declared.record.Plan.{Plan}
-use Rattle.kz_model.specs.Journal.{trace_of, lines_of_round}
-use Rattle.kz_model.specs.Order.{default_rounds, order_of}
-use Rattle.kz_model.specs.Play.{lines_played}
-use Rattle.kz_model.specs.Traces.{no_step}
+use Rattle.kz_model.specs.Run.Journal.{trace_of, lines_of_round}
+use Rattle.kz_model.specs.Run.Order.{default_rounds, order_of}
+use Rattle.kz_laws.specs.Play.{play_after_lines}
+use Rattle.kz_model.specs.Run.Journal.{no_step}
 use Rattle.kz_machine.specs.Machine.{Machine}
-use Rattle.kz_machine.specs.Stands.{IsAt}
+use Rattle.kz_machine.specs.Stands.{StandsForPlay}
 
 -- The machine has done the order up to these lines, which are left.
 pub record IsLeft (b : Bundle) (plan : Plan) (m : Machine) (left : List OrderLine) : Type 0 where
   pub lines : List OrderLine
   pub parted : lines ++ left ≡ order_of b
-  pub at : IsAt b plan m (lines_played b plan lines)
+  pub at : StandsForPlay b plan m (play_after_lines b plan lines)
 
 -- ---- the default order
 
 -- the turns of a round from this CPU on
 abbrev pub turns_from : Bundle → ℕ → ℕ → List OrderLine
-turns_from b round cpu = flat_map (λ cpu. replicate (length (lines_of_round b cpu round)) (Cpu cpu)) (range_with_len cpu (b.cpus - cpu))
+turns_from b round cpu = flat_map (λ cpu. replicate (length (lines_of_round b cpu round)) (Cpu cpu))
+    (range_with_len cpu (b.cpus - cpu))
 
 -- what follows a round: the line between two, and the rounds from this one on
 abbrev pub rounds_after : Bundle → ℕ → List OrderLine

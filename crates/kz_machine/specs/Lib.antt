@@ -1,6 +1,6 @@
-pub mod Looks
+pub mod Lookups
 pub mod Needs
-pub mod Blank
+pub mod RecordRoom
 pub mod Machine
 pub mod Steps
 pub mod Stands

@@ -4,8 +4,8 @@ use Rattle.kz_model.specs.declared.record.Room.{Room}
 use Rattle.kz_supply.specs.Thin.{ThinSupply}
 use Rattle.kz_book.specs.Book.{Book}
 use Rattle.kz_cpu.specs.Cpu.{Cpu}
-use Rattle.kz_model.specs.Replies.{ReplySheet}
-use Rattle.kz_machine.specs.Blank.{Blank, no_replies}
+use Rattle.kz_model.specs.Store.Replies.{RepliesSoFar}
+use Rattle.kz_machine.specs.RecordRoom.{RecordRoom, no_replies}
 
 -- the CPUs, each zone's book and room, the supply, each CPU's replies, the round, and room for the record
 pub record Machine : Type 0 where
@@ -13,9 +13,9 @@ pub record Machine : Type 0 where
   pub books : List Book
   pub rooms : List Room
   pub supply : ThinSupply
-  pub replies : List ReplySheet
+  pub replies : List RepliesSoFar
   pub round : ℕ
-  pub blank : Blank
+  pub record_room : RecordRoom
 
-abbrev pub replies_at : List ReplySheet → ℕ → ReplySheet
+abbrev pub replies_at : List RepliesSoFar → ℕ → RepliesSoFar
 replies_at replies cpu = slice_index_or replies cpu no_replies

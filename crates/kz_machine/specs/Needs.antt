@@ -4,16 +4,19 @@ use Rattle.std.specs.List.{range_with_len}
 use Rattle.kz_model.specs.declared.bundle.Bundle.{Bundle}
 use Rattle.kz_model.specs.declared.record.Plan.{Plan}
 use Rattle.kz_model.specs.declared.record.Room.{Room}
-use Rattle.kz_model.specs.Amounts.{zone_allocations, zone_gifts}
-use Rattle.kz_model.specs.Rooms.{room_of}
+use Rattle.kz_model.specs.Run.Rooms.{zone_allocations, zone_gifts}
+use Rattle.kz_model.specs.Run.Rooms.{room_of}
 
--- A zone comes to no more chunks than lines on it allocate, as each brings one at most, and to no more than fit into the frames, as a new one comes only while all others are mapped. One more has room, since it is asked for before the frames are known to be short.
+-- A zone comes to no more chunks than lines on it allocate, as each brings one at most, and to no more than fit into
+-- the frames, as a new one comes only while all others are mapped. One more has room, since it is asked for before the
+-- frames are known to be short.
 abbrev pub chunks_needed : ℕ → ℕ → Room → ℕ
 chunks_needed frames allocations room = min (min room.chunks allocations) (frames / room.params.pages + 1)
 
 -- room for so many chunks, and for a gift of each line that gives a block away
 abbrev pub needed : ℕ → ℕ → ℕ → Room → Room
-needed frames allocations gifts room = record { params = room.params; chunks = chunks_needed frames allocations room; transit = gifts; steps = room.steps }
+needed frames allocations gifts room =
+    record { params = room.params; chunks = chunks_needed frames allocations room; transit = gifts; steps = room.steps }
 
 -- of a zone's room
 abbrev pub needed_of : Bundle → Plan → ℕ → Room
@@ -22,12 +25,9 @@ needed_of b plan zone = needed b.frames (zone_allocations b plan zone) (zone_gif
 abbrev pub needed_rooms : Bundle → Plan → List Room
 needed_rooms b plan = map (needed_of b plan) (range_with_len 0 (length plan.zones))
 
--- by zone, how many lines on it allocate, and how many give a block away
+-- by zone, how many lines on it allocate
 abbrev pub allocations_of : Bundle → Plan → List ℕ
 allocations_of b plan = map (zone_allocations b plan) (range_with_len 0 (length plan.zones))
-
-abbrev pub gifts_of : Bundle → Plan → List ℕ
-gifts_of b plan = map (zone_gifts b plan) (range_with_len 0 (length plan.zones))
 
 -- How many entries a log may have where so many lines allocate: an ask for each, and a back of what it brought.
 abbrev pub most_entries : List ℕ → ℕ

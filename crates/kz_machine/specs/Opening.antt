@@ -1,8 +1,8 @@
 -- What a machine opens with.
 use Rattle.std.specs.Prelude.{◌≡◌, ℕ, ◌<◌, List, [], length}
 use Rattle.kz_model.specs.declared.record.Room.{Room}
-use Rattle.kz_book.specs.Book.{Book, Journal, Keeps}
-use Rattle.kz_machine.specs.Looks.{room_at, book_at}
+use Rattle.kz_book.specs.Book.{Book, History, KeepsHistory}
+use Rattle.kz_machine.specs.Lookups.{room_at, book_at}
 
 -- the book of a zone that no CPU has visited
 pub record IsOpened (opens : Room) (book : Book) : Type 0 where
@@ -11,8 +11,8 @@ pub record IsOpened (opens : Room) (book : Book) : Type 0 where
   pub chunks : book.zone.chunks ≡ []
   pub most_chunks : book.zone.most_chunks ≡ opens.chunks
   pub most_gifts : book.zone.most_gifts ≡ opens.transit
-  pub history : Journal
-  pub keeps : Keeps book history
+  pub history : History
+  pub keeps : KeepsHistory book history
   pub steps : history.steps ≡ []
   pub answers : history.answers ≡ []
 

@@ -2,20 +2,20 @@
 ghost use Rattle.std.specs.Prelude.{◌≡◌, ◌<◌, length, map, IfOk};
 ghost use Rattle.kz_model.specs.declared.bundle.Bundle.{Bundle as BundleSeen};
 ghost use Rattle.kz_model.specs.declared.record.Plan.{Plan as PlanSeen};
-ghost use Rattle.kz_model.specs.Planned.{IsPlanned};
-ghost use Rattle.kz_model.specs.Play.{Play, play_opened, played, effect_there, round_ended, record_of};
-ghost use Rattle.kz_model.specs.PlayedAt.{IsPlaySound};
+ghost use Rattle.kz_model.specs.Types.Planned.{IsPlanned};
+ghost use Rattle.kz_laws.specs.Play.{Play, opening_play, play_after_step, effect_there, play_after_round, record_of};
+ghost use Rattle.kz_laws.specs.PlayedAt.{IsPlaySound};
 ghost use Rattle.kz_machine.specs.Machine.{replies_at};
-ghost use Rattle.kz_machine.specs.Stands.{IsAt, IsTurn, IsRoundsEnd};
+ghost use Rattle.kz_machine.specs.Stands.{StandsForPlay, IsTurn, IsRoundsEnd};
 
-use crate::blank::Blank;
-use crate::opening::{books_of, cpus_of, entries_of, frames_of, limit_rooms, replies_of};
+use crate::opening::{books_of, cpus_of, entries_of, frames_of, limited_rooms, replies_of};
+use crate::record_room::RecordRoom;
 use crate::settling::settle;
 use crate::stepping::one_step;
 use kz_book::Book;
-use kz_bundle::{count_kind, rooms};
+use kz_bundle::zone_loads;
 use kz_cpu::Cpu;
-use kz_model::{Bundle, LineKind, Plan, Record, Reply, ReplySheet, Room, Step};
+use kz_model::{Bundle, Plan, Record, RepliesSoFar, Reply, Room, Step};
 use kz_plan::plans_are_fit;
 use kz_supply::ThinSupply;
 use std::alloc::{AllocError, Global};
@@ -30,9 +30,9 @@ pub struct Machine {
     books: Vec<Book>,
     rooms: Vec<Room>,
     supply: ThinSupply,
-    replies: Vec<ReplySheet>,
+    replies: Vec<RepliesSoFar>,
     round: u32,
-    blank: Blank,
+    record_room: RecordRoom,
 }
 
 impl Model for Machine {
@@ -40,22 +40,29 @@ impl Model for Machine {
 
     ghost Value = { Seen };
 
-    ghost view = { λ m. record { cpus = m.cpus.items; books = m.books.items; rooms = m.rooms.items; supply = m.supply; replies = m.replies.items; round = m.round; blank = m.blank } };
+    ghost view = { λ m. record {
+      cpus = m.cpus.items;
+      books = m.books.items;
+      rooms = m.rooms.items;
+      supply =
+          m.supply;
+      replies = m.replies.items;
+      round = m.round;
+      record_room = m.record_room;
+    } };
 }
 
 impl Machine {
     /// The machine of a bundle before its first line.
     pub fn boot(alloc: Global, bundle: &Bundle, plan: &Plan) -> Result<Machine, AllocError>
         requires { IsPlanned bundle.now plan.now }
-        ensures { IfOk result (λ machine. IsAt bundle.now plan.now machine (play_opened bundle.now plan.now)) }
+        ensures { IfOk result (λ machine. StandsForPlay bundle.now plan.now machine (opening_play bundle.now plan.now)) }
     {
         plans_are_fit();
-        let allocations = count_kind(alloc, bundle, plan, LineKind::Allocating)?;
-        let gifts = count_kind(alloc, bundle, plan, LineKind::Giving)?;
-        let rooms = rooms(alloc, bundle, plan)?;
-        let rooms = limit_rooms(bundle, plan, &allocations, &gifts, rooms);
+        let loads = zone_loads(alloc, bundle, plan)?;
+        let entries = entries_of(&loads);
+        let rooms = limited_rooms(alloc, bundle, plan, loads)?;
         let frames = frames_of(&rooms, bundle.pages);
-        let entries = entries_of(&allocations);
         let names = bundle.names.len() as u32;
         Ok(Machine {
             cpus: cpus_of(alloc, bundle.cpus, &rooms, names, bundle.pages.max(1))?,
@@ -63,7 +70,7 @@ impl Machine {
             supply: ThinSupply::new(alloc, bundle.frames, frames, bundle.pages, entries)?,
             replies: replies_of(alloc, bundle.traces.as_slice())?,
             round: 0,
-            blank: Blank::new(alloc, bundle.cpus, &rooms)?,
+            record_room: RecordRoom::new(alloc, bundle.cpus, &rooms)?,
             rooms,
         })
     }
@@ -78,9 +85,13 @@ impl Machine {
 
     /// A CPU's next line: its step on a zone.
     pub fn step(&mut self, cpu: u32, zone: u32, step: &Step) -> Reply
-        requires { (b : BundleSeen) × (plan : PlanSeen) × (s : Play) × IsAt b plan self.old s × IsTurn b plan s cpu zone step.now }
-        ensures plays { (b : BundleSeen) (plan : PlanSeen) (s : Play) → IsAt b plan self.old s → IsTurn b plan s cpu zone step.now → IsAt b plan self.new (played b plan s cpu zone step.now) }
-        ensures reply { (b : BundleSeen) (plan : PlanSeen) (s : Play) → IsAt b plan self.old s → IsTurn b plan s cpu zone step.now → result ≡ (effect_there b plan s cpu zone step.now).reply }
+        requires { (b : BundleSeen) × (plan : PlanSeen) × (s : Play) × StandsForPlay b plan self.old s ×
+            IsTurn b plan s cpu zone step.now }
+        ensures plays { (b : BundleSeen) (plan : PlanSeen) (s : Play) → StandsForPlay b plan self.old s →
+            IsTurn b plan s cpu zone step.now →
+            StandsForPlay b plan self.new (play_after_step b plan s cpu zone step.now) }
+        ensures reply { (b : BundleSeen) (plan : PlanSeen) (s : Play) → StandsForPlay b plan self.old s →
+            IsTurn b plan s cpu zone step.now → result ≡ (effect_there b plan s cpu zone step.now).reply }
     {
         one_step(
             &mut self.cpus[cpu as usize],
@@ -95,8 +106,10 @@ impl Machine {
 
     /// The end of a round, in which no CPU has a line left: each settles on each zone.
     pub fn end_round(&mut self)
-        requires { (b : BundleSeen) × (plan : PlanSeen) × (s : Play) × IsAt b plan self.old s × IsRoundsEnd b plan s }
-        ensures { (b : BundleSeen) (plan : PlanSeen) (s : Play) → IsAt b plan self.old s → IsRoundsEnd b plan s → IsAt b plan self.new (round_ended b s) }
+        requires { (b : BundleSeen) × (plan : PlanSeen) × (s : Play) × StandsForPlay b plan self.old s ×
+            IsRoundsEnd b plan s }
+        ensures { (b : BundleSeen) (plan : PlanSeen) (s : Play) → StandsForPlay b plan self.old s →
+            IsRoundsEnd b plan s → StandsForPlay b plan self.new (play_after_round b s) }
     {
         settle(&mut self.cpus, &mut self.books, self.round);
         self.round += 1;
@@ -104,8 +117,10 @@ impl Machine {
 
     /// The record of the run.
     pub fn finish(self) -> Record
-        requires { (b : BundleSeen) × (plan : PlanSeen) × (s : Play) × IsAt b plan self s × IsPlaySound b plan s }
-        ensures { (b : BundleSeen) (plan : PlanSeen) (s : Play) → IsAt b plan self s → IsPlaySound b plan s → result ≡ record_of s }
+        requires { (b : BundleSeen) × (plan : PlanSeen) × (s : Play) × StandsForPlay b plan self s ×
+            IsPlaySound b plan s }
+        ensures { (b : BundleSeen) (plan : PlanSeen) (s : Play) → StandsForPlay b plan self s → IsPlaySound b plan s →
+            result ≡ record_of s }
     {
         let Machine {
             cpus: _,
@@ -114,8 +129,8 @@ impl Machine {
             supply,
             replies,
             round: _,
-            blank,
+            record_room,
         } = self;
-        blank.record(replies, books, supply)
+        record_room.record(replies, books, supply)
     }
 }

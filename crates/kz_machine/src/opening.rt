@@ -1,22 +1,23 @@
 //! What a machine opens with.
 ghost use Rattle.std.specs.Prelude.{◌≡◌, ℕ, ◌*◌, ◌^◌, ◌<◌, ◌≤◌, [], length, map, All, IfOk};
 ghost use Rattle.std.specs.List.{range_with_len};
-ghost use Rattle.kz_model.specs.Planned.{IsPlanned};
-ghost use Rattle.kz_model.specs.Rooms.{rooms_of};
-ghost use Rattle.kz_zone.specs.Room.{IsFit};
+ghost use Rattle.kz_model.specs.Types.Planned.{IsPlanned};
+ghost use Rattle.kz_bundle.specs.Counted.{loads_of};
+ghost use Rattle.kz_zone.specs.Room.{IsFitRoom};
 ghost use Rattle.kz_cpu.specs.Cpu.{opened_cpu};
-ghost use Rattle.kz_machine.specs.Needs.{needed, needed_rooms, allocations_of, gifts_of, most_entries, frames_in, frames_needed};
+ghost use Rattle.kz_machine.specs.Needs.{needed, needed_rooms, most_entries, frames_in, frames_needed};
 ghost use Rattle.kz_machine.specs.Opening.{AreOpened};
 
 use kz_book::Book;
+use kz_bundle::ZoneLoad;
 use kz_cpu::Cpu;
-use kz_model::{Bundle, Plan, ReplySheet, Room, Trace};
+use kz_model::{Bundle, Plan, RepliesSoFar, Room, Trace};
 use kz_plan::plans_are_fit;
 use std::alloc::{AllocError, Global};
 
 /// A book for each zone.
 pub fn books_of(alloc: Global, rooms: &[Room]) -> Result<Vec<Book>, AllocError>
-    requires { All IsFit rooms.now }
+    requires { All IsFitRoom rooms.now }
     ensures { IfOk result (λ books. AreOpened rooms.now books.items) }
 {
     let mut books = Vec::with_capacity(alloc, rooms.len())?;
@@ -34,7 +35,7 @@ pub fn cpus_of(
     names: u32,
     pages: u32,
 ) -> Result<Vec<Cpu>, AllocError>
-    requires fit { All IsFit rooms.now }
+    requires fit { All IsFitRoom rooms.now }
     requires cpus { All (λ room. room.params.cpus ≡ cpus) rooms.now }
     requires some { 1 ≤ pages }
     requires few { pages ≤ 4096 }
@@ -48,60 +49,60 @@ pub fn cpus_of(
 }
 
 /// Room for the replies to each CPU's lines.
-pub fn replies_of(alloc: Global, traces: &[Trace]) -> Result<Vec<ReplySheet>, AllocError>
+pub fn replies_of(alloc: Global, traces: &[Trace]) -> Result<Vec<RepliesSoFar>, AllocError>
     requires { All (λ trace. length trace ≤ 1000000) traces.now }
-    ensures { IfOk result (λ replies. replies.items ≡ map (λ trace. record { room = length trace; items = [] }) traces.now) }
+    ensures { IfOk result (λ replies. replies.items
+        ≡ map (λ trace. record { room = length trace; items = [] }) traces.now) }
 {
     let mut replies = Vec::with_capacity(alloc, traces.len())?;
     for trace in traces {
-        replies.push(ReplySheet::new(alloc, trace.len() as u32)?)?;
+        replies.push(RepliesSoFar::new(alloc, trace.len() as u32)?)?;
     }
     Ok(replies)
 }
 
 /// How many entries the supply's log may have where so many lines on each zone allocate: two for each.
-pub fn entries_of(allocations: &[u32]) -> u32
-    requires { most_entries allocations.now < 2 ^ 32 }
-    ensures { result ≡ most_entries allocations.now }
+pub fn entries_of(loads: &[ZoneLoad]) -> u32
+    requires { most_entries (map (λ load. load.allocating) loads.now) < 2 ^ 32 }
+    ensures { result ≡ most_entries (map (λ load. load.allocating) loads.now) }
 {
-    2 * allocations.iter().sum::<u32>()
+    2 * loads.iter().map(|load| load.allocating).sum::<u32>()
 }
 
-/// Leaves a room no more than a run with so many frames can use, in which so many lines allocate and so many give a block away.
-fn limit(room: &mut Room, frames: u32, allocations: u32, gifts: u32)
-    requires pages { 0 < room.old.params.pages }
+/// No more of a zone's room than a run with so many frames can use.
+fn limited(load: ZoneLoad, frames: u32) -> Room
+    requires pages { 0 < load.room.params.pages }
     requires frames { frames ≤ 8192 }
-    ensures { room.new ≡ needed frames allocations gifts room.old }
+    ensures { result ≡ needed frames load.allocating load.giving load.room }
 {
+    let ZoneLoad {
+        mut room,
+        allocating,
+        giving,
+    } = load;
     let full = frames / room.params.pages;
-    room.chunks = room.chunks.min(allocations).min(full + 1);
-    room.transit = gifts;
+    room.chunks = room.chunks.min(allocating).min(full + 1);
+    room.transit = giving;
+    room
 }
 
-/// Leaves the zones' rooms, each of which so many lines allocate and so many give a block away, no more than the bundle's run can use.
-pub fn limit_rooms(
+/// No more of the zones' rooms than the bundle's run can use.
+pub fn limited_rooms(
+    alloc: Global,
     bundle: &Bundle,
     plan: &Plan,
-    allocations: &[u32],
-    gifts: &[u32],
-    mut rooms: Vec<Room>,
-) -> Vec<Room>
+    loads: Vec<ZoneLoad>,
+) -> Result<Vec<Room>, AllocError>
     requires planned { IsPlanned bundle.now plan.now }
-    requires allocations { allocations.now ≡ allocations_of bundle.now plan.now }
-    requires gifts { gifts.now ≡ gifts_of bundle.now plan.now }
-    requires rooms { rooms.items ≡ rooms_of bundle.now plan.now }
-    ensures { result.items ≡ needed_rooms bundle.now plan.now }
+    requires loads { loads.items ≡ loads_of bundle.now plan.now }
+    ensures { IfOk result (λ rooms. rooms.items ≡ needed_rooms bundle.now plan.now) }
 {
     plans_are_fit();
-    for zone in 0..rooms.len() {
-        limit(
-            &mut rooms[zone],
-            bundle.frames,
-            allocations[zone],
-            gifts[zone],
-        );
+    let mut rooms = Vec::with_capacity(alloc, loads.len())?;
+    for load in loads {
+        rooms.push(limited(load, bundle.frames))?;
     }
-    rooms
+    Ok(rooms)
 }
 
 /// How many frames can be out at once: those of all chunks in these rooms, and no more than the pages of five submaps.

@@ -2,11 +2,11 @@
 ghost use Rattle.std.specs.Prelude.{◌≡◌, ◌+◌, ◌<◌, ℕ, List, [], ◌∷◌, ◌++◌, None, length, replicate, IfOk};
 ghost use Rattle.kz_model.specs.declared.bundle.OrderLine.{OrderLine as OrderLineSeen};
 ghost use Rattle.kz_model.specs.declared.bundle.OrderLine.TheVariants.{Cpu as CpuLine};
-ghost use Rattle.kz_model.specs.Isolation.{IsIsolated};
-ghost use Rattle.kz_model.specs.Journal.{trace_of};
-ghost use Rattle.kz_model.specs.Order.{order_of, default_round};
-ghost use Rattle.kz_model.specs.Planned.{IsPlanned};
-ghost use Rattle.kz_model.specs.Recorded.{IsOfOrder};
+ghost use Rattle.kz_laws.specs.Isolation.{IsIsolated};
+ghost use Rattle.kz_model.specs.Run.Journal.{trace_of};
+ghost use Rattle.kz_model.specs.Run.Order.{order_of, default_round};
+ghost use Rattle.kz_model.specs.Types.Planned.{IsPlanned};
+ghost use Rattle.kz_model.specs.Run.Recorded.{IsOfOrder};
 ghost use Rattle.kz_machine.specs.Left.{IsLeft, IsRest, has_line_at, turns_from, rounds_after};
 ghost use Rattle.kz_machine.specs.Machine.{replies_at};
 
@@ -18,7 +18,8 @@ use std::alloc::{AllocError, Global};
 /// A CPU's next line.
 fn play(machine: &mut Machine, bundle: &Bundle, plan: &Plan, cpu: u32)
     requires { (rest : List OrderLineSeen) × IsLeft bundle.now plan.now machine.old (CpuLine cpu ∷ rest) }
-    ensures { (rest : List OrderLineSeen) → IsLeft bundle.now plan.now machine.old (CpuLine cpu ∷ rest) → IsLeft bundle.now plan.now machine.new rest }
+    ensures { (rest : List OrderLineSeen) → IsLeft bundle.now plan.now machine.old (CpuLine cpu ∷ rest) →
+        IsLeft bundle.now plan.now machine.new rest }
 {
     let at = machine.replied(cpu) as u32;
     let (zone, step) = addressed(bundle, plan, cpu, at);
@@ -51,8 +52,11 @@ fn has_line(machine: &Machine, bundle: &Bundle, cpu: u32, round: u32) -> bool
 
 /// A CPU's lines of a round.
 fn play_lines(machine: &mut Machine, bundle: &Bundle, plan: &Plan, cpu: u32, round: u32)
-    requires { (n : ℕ) × (rest : List OrderLineSeen) × IsLeft bundle.now plan.now machine.old (replicate n (CpuLine cpu) ++ rest) × IsRest bundle.now cpu round rest }
-    ensures { (n : ℕ) (rest : List OrderLineSeen) → IsLeft bundle.now plan.now machine.old (replicate n (CpuLine cpu) ++ rest) → IsRest bundle.now cpu round rest → IsLeft bundle.now plan.now machine.new rest }
+    requires { (n : ℕ) × (rest : List OrderLineSeen) ×
+        IsLeft bundle.now plan.now machine.old (replicate n (CpuLine cpu) ++ rest) × IsRest bundle.now cpu round rest }
+    ensures { (n : ℕ) (rest : List OrderLineSeen) →
+        IsLeft bundle.now plan.now machine.old (replicate n (CpuLine cpu) ++ rest) → IsRest bundle.now cpu round rest →
+        IsLeft bundle.now plan.now machine.new rest }
 {
     while has_line(machine, bundle, cpu, round) {
         play(machine, bundle, plan, cpu);
@@ -63,7 +67,8 @@ fn play_lines(machine: &mut Machine, bundle: &Bundle, plan: &Plan, cpu: u32, rou
 fn play_round(machine: &mut Machine, bundle: &Bundle, plan: &Plan, round: u32)
     requires order { bundle.now.order ≡ None }
     requires round { round < bundle.now.rounds }
-    requires left { IsLeft bundle.now plan.now machine.old (default_round bundle.now round ++ rounds_after bundle.now (round + 1)) }
+    requires left { IsLeft bundle.now plan.now machine.old (default_round bundle.now round
+        ++ rounds_after bundle.now (round + 1)) }
     ensures { IsLeft bundle.now plan.now machine.new (rounds_after bundle.now (round + 1)) }
 {
     for cpu in 0..bundle.cpus {
@@ -97,7 +102,8 @@ fn play_order(machine: &mut Machine, bundle: &Bundle, plan: &Plan)
 
 /// Runs the lines of a bundle in its order; without one in each round CPU 0 does its lines, then CPU 1, and so on.
 ///
-/// What the zones did is told apart: each answers as it does alone, no block is live twice, and no address is of two blocks.
+/// What the zones did is told apart: each answers as it does alone, no block is live twice, and no address is of two
+/// blocks.
 pub fn replay(alloc: Global, bundle: &Bundle, plan: &Plan) -> Result<Record, AllocError>
     requires { IsPlanned bundle.now plan.now }
     ensures order { IfOk result (λ made. IsOfOrder bundle.now plan.now made) }

@@ -1,13 +1,13 @@
 //! A step of a CPU on a zone.
 ghost use Rattle.std.specs.Prelude.{◌≡◌, ◌<◌, ◌++◌, [], ◌∷◌, true, List, length};
 ghost use Rattle.kz_supply.specs.Exchange.{Exchange};
-ghost use Rattle.kz_book.specs.Book.{Journal, Keeps};
+ghost use Rattle.kz_book.specs.Book.{History, KeepsHistory};
 ghost use Rattle.kz_cpu.specs.Caught.{IsCaughtUp};
-ghost use Rattle.kz_machine.specs.Steps.{IsReady, Does, side, needs_here};
+ghost use Rattle.kz_machine.specs.Steps.{IsReady, IsStepDone, parties, needs_here};
 
 use kz_book::Book;
 use kz_cpu::Cpu;
-use kz_model::{Reply, ReplySheet, Step, ZoneParams};
+use kz_model::{RepliesSoFar, Reply, Step, ZoneParams};
 use kz_supply::{ThinPages, ThinSupply};
 
 /// A visit to the zone, in which the supply answers it alone.
@@ -22,10 +22,13 @@ fn visit(
     params: &ZoneParams,
     step: &Step,
 ) -> Reply
-    requires ready { IsReady params.now (side cpu.old book.old supply.old) step.now }
-    requires needs { (j : Journal) → Keeps book.old j → IsCaughtUp cpu.old params.now.zone j → needs_here params.now (side cpu.old book.old supply.old) j step.now ≡ true }
-    ensures { (j : Journal) → Keeps book.old j → IsCaughtUp cpu.old params.now.zone j →
-        (after : Journal) × (exchanges : List Exchange) × Does params.now round (side cpu.old book.old supply.old) (side cpu.new book.new supply.new) step.now result j after exchanges }
+    requires ready { IsReady params.now (parties cpu.old book.old supply.old) step.now }
+    requires needs { (j : History) → KeepsHistory book.old j → IsCaughtUp cpu.old params.now.zone j →
+        needs_here params.now (parties cpu.old book.old supply.old) j step.now ≡ true }
+    ensures { (j : History) → KeepsHistory book.old j → IsCaughtUp cpu.old params.now.zone j →
+        (after : History) × (exchanges : List Exchange) ×
+        IsStepDone params.now round (parties cpu.old book.old supply.old)
+        (parties cpu.new book.new supply.new) step.now result j after exchanges }
 {
     let mut pages = ThinPages::new(supply, params);
     cpu.slow(round, params.zone, step, book, &mut pages)
@@ -39,12 +42,14 @@ pub fn one_step(
     round: u32,
     params: &ZoneParams,
     step: &Step,
-    replies: &mut ReplySheet,
+    replies: &mut RepliesSoFar,
 ) -> Reply
-    requires ready { IsReady params.now (side cpu.old book.old supply.old) step.now }
+    requires ready { IsReady params.now (parties cpu.old book.old supply.old) step.now }
     requires room { length replies.old.items < replies.old.room }
-    ensures does { (j : Journal) → Keeps book.old j → IsCaughtUp cpu.old params.now.zone j →
-        (after : Journal) × (exchanges : List Exchange) × Does params.now round (side cpu.old book.old supply.old) (side cpu.new book.new supply.new) step.now result j after exchanges }
+    ensures does { (j : History) → KeepsHistory book.old j → IsCaughtUp cpu.old params.now.zone j →
+        (after : History) × (exchanges : List Exchange) ×
+        IsStepDone params.now round (parties cpu.old book.old supply.old)
+        (parties cpu.new book.new supply.new) step.now result j after exchanges }
     ensures items { replies.new.items ≡ replies.old.items ++ result ∷ [] }
     ensures room { replies.new.room ≡ replies.old.room }
 {

@@ -22,7 +22,8 @@ stands places place ordinal = nat_lt ordinal (length places) && is_place place (
 
 -- each set has just the ordinals at its place
 abbrev pub AreSets : Sets → List Place → Type 0
-AreSets sets places = (place : Place) (ordinal : ℕ) → ordinal < 64 * length (set_of sets place) → has (set_of sets place) ordinal ≡ stands places place ordinal
+AreSets sets places = (place : Place) (ordinal : ℕ) → ordinal < 64 * length (set_of sets place) →
+    has (set_of sets place) ordinal ≡ stands places place ordinal
 
 -- What a shelf keeps.
 pub record IsShelf (room capacity : ℕ) (places : List Place) (sets : Sets) : Type 0 where

@@ -56,7 +56,8 @@ impl Ordinals {
 
     /// The lowest one.
     pub fn lowest(&self) -> Option<u32>
-        ensures some { IfSome result (λ ordinal. (has self.now ordinal ≡ true) × ((other : ℕ) → other < ordinal → has self.now other ≡ false)) }
+        ensures some { IfSome result (λ ordinal. (has self.now ordinal ≡ true) ×
+            ((other : ℕ) → other < ordinal → has self.now other ≡ false)) }
         ensures within { IfSome result (λ ordinal. ordinal < 64 * length self.now) }
         ensures none { IfNone result ((ordinal : ℕ) → ordinal < 64 * length self.now → has self.now ordinal ≡ false) }
     {
@@ -71,7 +72,8 @@ impl Ordinals {
     /// Takes an ordinal in.
     pub fn add(&mut self, ordinal: u32)
         requires { ordinal < 64 * length self.old }
-        ensures has { (other : ℕ) → other < 64 * length self.old → has self.new other ≡ (if other == ordinal then true else has self.old other) }
+        ensures has { (other : ℕ) → other < 64 * length self.old → has self.new other
+            ≡ (if other == ordinal then true else has self.old other) }
         ensures words { length self.new ≡ length self.old }
     {
         let word = ordinal / 64;
@@ -83,7 +85,8 @@ impl Ordinals {
     /// Lets an ordinal go.
     pub fn remove(&mut self, ordinal: u32)
         requires { ordinal < 64 * length self.old }
-        ensures has { (other : ℕ) → other < 64 * length self.old → has self.new other ≡ (if other == ordinal then false else has self.old other) }
+        ensures has { (other : ℕ) → other < 64 * length self.old → has self.new other
+            ≡ (if other == ordinal then false else has self.old other) }
         ensures words { length self.new ≡ length self.old }
     {
         let word = ordinal / 64;

@@ -33,8 +33,10 @@ impl Sets {
 
     /// The lowest ordinal at this place.
     pub fn lowest(&self, place: Place) -> Option<u32>
-        ensures some { IfSome result (λ ordinal. (has (set_of self.now place) ordinal ≡ true) × ((other : ℕ) → other < ordinal → has (set_of self.now place) other ≡ false)) }
-        ensures none { IfNone result ((ordinal : ℕ) → ordinal < 64 * length (set_of self.now place) → has (set_of self.now place) ordinal ≡ false) }
+        ensures some { IfSome result (λ ordinal. (has (set_of self.now place) ordinal ≡ true) ×
+            ((other : ℕ) → other < ordinal → has (set_of self.now place) other ≡ false)) }
+        ensures none { IfNone result ((ordinal : ℕ) → ordinal < 64 * length (set_of self.now place) →
+            has (set_of self.now place) ordinal ≡ false) }
         ensures within { IfSome result (λ ordinal. ordinal < 64 * length (set_of self.now place)) }
     {
         match place {
@@ -49,7 +51,8 @@ impl Sets {
     pub fn add(&mut self, place: Place, ordinal: u32)
         requires { (any : ThePlace) → ordinal < 64 * length (set_of self.old any) }
         ensures has { (any : ThePlace) (other : ℕ) → other < 64 * length (set_of self.old any) →
-            has (set_of self.new any) other ≡ (if is_place any place && (other == ordinal) then true else has (set_of self.old any) other) }
+            has (set_of self.new any) other
+            ≡ (if is_place any place && (other == ordinal) then true else has (set_of self.old any) other) }
         ensures words { (any : ThePlace) → length (set_of self.new any) ≡ length (set_of self.old any) }
     {
         match place {
@@ -64,7 +67,8 @@ impl Sets {
     pub fn remove(&mut self, place: Place, ordinal: u32)
         requires { (any : ThePlace) → ordinal < 64 * length (set_of self.old any) }
         ensures has { (any : ThePlace) (other : ℕ) → other < 64 * length (set_of self.old any) →
-            has (set_of self.new any) other ≡ (if is_place any place && (other == ordinal) then false else has (set_of self.old any) other) }
+            has (set_of self.new any) other
+            ≡ (if is_place any place && (other == ordinal) then false else has (set_of self.old any) other) }
         ensures words { (any : ThePlace) → length (set_of self.new any) ≡ length (set_of self.old any) }
     {
         match place {

@@ -12,9 +12,9 @@ use Rattle.kz_model.specs.declared.supply.Ask.TheVariants.{Chunk, Frames, Back}
 use Rattle.kz_model.specs.declared.supply.Answer.{Answer}
 use Rattle.kz_model.specs.declared.supply.Answer.TheVariants.{Base, Given, NoSpace, NoFrames, Taken}
 use Rattle.kz_model.specs.declared.supply.SupplyEntry.{SupplyEntry}
-use Rattle.kz_model.specs.Amounts.{pages_granted, granted_in}
-use Rattle.kz_model.proofs.Stocks.{granted_in-append}
-use Rattle.kz_model.specs.Supply.{Stock, stocked, stock_after, pages_left}
+use Rattle.kz_model.specs.Run.Supply.{pages_granted, granted_in}
+use Rattle.kz_model.proofs.Grants.{granted_in-append}
+use Rattle.kz_model.specs.Run.Supply.{Stock, opening_stock, stock_after, pages_left}
 use Rattle.kz_supply.specs.Supply.{Supply, room_left, stock_with, stock_of, frames_out, with_entry}
 use Rattle.kz_supply.specs.Thin.{ThinSupply, HasMade, has_made, thin_with_entry}
 use Rattle.kz_supply.specs.Solo.{supply_at, entries_since}
@@ -47,9 +47,9 @@ free_along stock (e ∷ es) = omega (arith, free_granted stock e.ask e.answer, f
 -- since the log had so many entries
 out_since : (entries : ℕ) (s : Supply) → frames_out s ≤ frames_out (supply_at entries s) + granted_in (entries_since entries s)
 out_since entries s =
-    let first = fold stock_with (stocked s.frames) (take entries s.log) in
+    let first = fold stock_with (opening_stock s.frames) (take entries s.log) in
     let parts : (stock_of s).free ≡ (fold stock_with first (drop entries s.log)).free =
-    ap (λ (log : List SupplyEntry). (fold stock_with (stocked s.frames) log).free) (sym (take-append-drop entries s.log)) ∙ ap (λ (l : Stock). l.free) (fold-append stock_with (stocked s.frames) (take entries s.log) (drop entries s.log)) in
+    ap (λ (log : List SupplyEntry). (fold stock_with (opening_stock s.frames) log).free) (sym (take-append-drop entries s.log)) ∙ ap (λ (l : Stock). l.free) (fold-append stock_with (opening_stock s.frames) (take entries s.log) (drop entries s.log)) in
     omega (arith, parts, free_along first (drop entries s.log))
 
 -- ---- what the tests tell
@@ -69,6 +69,11 @@ frames_made entries p s can = granted p.pages entries s (grind (arith, can))
 
 pub chunk_made : (entries : ℕ) (p : ZoneParams) (s : ThinSupply) → IsTrue (can_place entries p s) → p.pages ≤ pages_left s.counted.pages (stock_of s.counted) p.submap → HasMade p.pages s
 chunk_made entries p s can enough = granted p.pages entries s (grind (arith, nat_tests, can, enough))
+
+-- where frames can be given a chunk can be placed
+pub give_place : (entries : ℕ) (p : ZoneParams) (s : ThinSupply) → IsTrue (can_give entries p s) → IsTrue (can_place entries p s)
+give_place entries p s can =
+    elim (nat_lt (pages_left s.counted.pages (stock_of s.counted) p.submap) p.pages) as (λ t. IsTrue (nat_lt 0 (room_left s.counted) && (t || may_grant p.pages entries s))) [ true ↦ grind (arith, can) | false ↦ can ]
 
 -- ---- a use of the supply
 

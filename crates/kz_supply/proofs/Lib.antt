@@ -4,3 +4,5 @@ pub mod Logs
 pub mod Rooms
 pub mod Gets
 pub mod Grants
+pub mod Views
+pub mod Entries

@@ -10,11 +10,11 @@ use Rattle.kz_model.specs.declared.supply.Ask.TheVariants.{Chunk, Frames, Back}
 use Rattle.kz_model.specs.declared.supply.Answer.{Answer}
 use Rattle.kz_model.specs.declared.supply.Answer.TheVariants.{Base, Given, NoSpace, NoFrames, Taken}
 use Rattle.kz_model.specs.declared.supply.SupplyEntry.{SupplyEntry}
-use Rattle.kz_model.specs.Supply.{Stock, stocked, answer_of, stock_after, answers_from, supply_answers}
-use Rattle.kz_model.specs.Order.{answered}
+use Rattle.kz_model.specs.Run.Supply.{Stock, opening_stock, answer_of, stock_after, answers_from, supply_answers}
+use Rattle.kz_model.specs.Run.Order.{answered}
 use Rattle.kz_supply.specs.Exchange.{Exchange, entries_of}
 use Rattle.kz_supply.specs.Supply.{Supply, AreAnswered, frames_out, stock_with, stock_of, with_entry, with_exchanges}
-use Rattle.kz_supply.specs.Thin.{ThinSupply, IsKept, thin_with_entry}
+use Rattle.kz_supply.specs.Thin.{ThinSupply, AgreesWithLog, thin_with_entry}
 
 abbrev ask_in : SupplyEntry → Ask
 ask_in entry = entry.ask
@@ -24,7 +24,7 @@ answer_in entry = entry.answer
 
 -- what is left after one more entry
 pub stock_of-with_entry : (entry : SupplyEntry) (s : Supply) → stock_of (with_entry entry s) ≡ stock_after (stock_of s) entry.ask entry.answer
-stock_of-with_entry entry s = fold-append stock_with (stocked s.frames) s.log (entry ∷ [])
+stock_of-with_entry entry s = fold-append stock_with (opening_stock s.frames) s.log (entry ∷ [])
 
 -- after a log whose answers are right, more asks are answered from what it leaves
 pub answers-append : (pages : ℕ) (stock : Stock) (log : List SupplyEntry) (asks : List Ask) → map answer_in log ≡ answers_from pages stock (map ask_in log) →
@@ -38,7 +38,7 @@ answers-append pages stock (e ∷ es) asks right =
 
 -- the supply's answers to the asks of its log and to more asks
 pub supply_answers-more : (s : Supply) (asks : List Ask) → AreAnswered s → supply_answers s.frames s.pages (map ask_in s.log ++ asks) ≡ map answer_in s.log ++ answers_from s.pages (stock_of s) asks
-supply_answers-more s asks right = answers-append s.pages (stocked s.frames) s.log asks right
+supply_answers-more s asks right = answers-append s.pages (opening_stock s.frames) s.log asks right
 
 -- one more entry with the right answer
 pub answered_more : (entry : SupplyEntry) (s : Supply) → AreAnswered s → entry.answer ≡ answer_of s.pages (stock_of s) entry.ask → AreAnswered (with_entry entry s)
@@ -95,8 +95,8 @@ free_kept stock (Back pages) (NoFrames free) = omega arith
 free_kept stock (Back pages) Taken = omega arith
 
 -- one more entry, and what is then left
-pub kept_more : (left new : Stock) (unmade capacity now : ℕ) (entry : SupplyEntry) (s : ThinSupply) → IsKept left unmade capacity s → length s.counted.log < s.counted.room → capacity ≤ now → entry.answer ≡ answer_of s.counted.pages left entry.ask → new ≡ stock_after left entry.ask entry.answer →
-    given_back entry.ask ≤ frames_out s.counted → asked_for entry.ask ≤ 8 → IsKept new unmade now (thin_with_entry entry s)
+pub kept_more : (left new : Stock) (unmade capacity now : ℕ) (entry : SupplyEntry) (s : ThinSupply) → AgreesWithLog left unmade capacity s → length s.counted.log < s.counted.room → capacity ≤ now → entry.answer ≡ answer_of s.counted.pages left entry.ask → new ≡ stock_after left entry.ask entry.answer →
+    given_back entry.ask ≤ frames_out s.counted → asked_for entry.ask ≤ 8 → AgreesWithLog new unmade now (thin_with_entry entry s)
 kept_more left new unmade capacity now entry s before more room answer after few small =
     let here = s.counted in
     let size : length (here.log ++ entry ∷ []) ≡ length here.log + 1 = length-append here.log (entry ∷ []) in

@@ -9,7 +9,7 @@ use Rattle.kz_model.specs.declared.supply.Ask.TheVariants.{Chunk, Frames, Back}
 use Rattle.kz_model.specs.declared.supply.Answer.{Answer}
 use Rattle.kz_model.specs.declared.supply.Answer.TheVariants.{Base, Given, NoSpace, NoFrames, Taken}
 use Rattle.kz_model.specs.declared.supply.SupplyEntry.{SupplyEntry}
-use Rattle.kz_model.specs.Supply.{Stock, stocked, answer_of, stock_after, pages_left}
+use Rattle.kz_model.specs.Run.Supply.{Stock, opening_stock, answer_of, stock_after, pages_left}
 use Rattle.kz_supply.specs.declared.pages.Denied.{Denied}
 use Rattle.kz_supply.specs.declared.pages.Denied.TheVariants as denied
 use Rattle.kz_supply.specs.declared.pages.Grant.{Grant}
@@ -41,7 +41,7 @@ cursors_along stock [] = refl
 cursors_along stock (e ∷ es) = cursors_along (stock_after stock e.ask e.answer) es ∙ cursors_after stock e.ask e.answer
 
 pub submaps : (s : Supply) → length (stock_of s).cursors ≡ 5
-submaps s = cursors_along (stocked s.frames) s.log ∙ length-replicate {A = ℕ} 5 0
+submaps s = cursors_along (opening_stock s.frames) s.log ∙ length-replicate {A = ℕ} 5 0
 
 -- ---- grants
 

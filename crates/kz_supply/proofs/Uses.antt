@@ -4,10 +4,10 @@ use Rattle.std.proofs.Math.Seq.{take-length}
 use Rattle.std.proofs.lemmas.List.{take-append-drop, append_cancel_left, map-append}
 use Rattle.std.proofs.lemmas.List.Elements.{filter-append}
 use Rattle.kz_model.specs.declared.supply.SupplyEntry.{SupplyEntry}
-use Rattle.kz_model.specs.Journal.{log_at}
+use Rattle.kz_model.specs.Run.Journal.{log_at}
 use Rattle.kz_supply.specs.Exchange.{Exchange, exchange, exchanges_at, entries_of}
 use Rattle.kz_model.specs.declared.bundle.Bundle.{Bundle}
-use Rattle.kz_model.specs.Order.{answered}
+use Rattle.kz_model.specs.Run.Order.{answered}
 use Rattle.kz_supply.specs.Supply.{Supply, AreAnswered, with_exchanges}
 use Rattle.kz_supply.proofs.Logs.{entries_answered}
 use Rattle.kz_supply.specs.Solo.{Start, AreOfZone, supply_at, entries_since}

@@ -8,7 +8,7 @@ use Rattle.kz_model.specs.declared.supply.Ask.TheVariants.{Chunk, Frames}
 use Rattle.kz_model.specs.declared.supply.Answer.{Answer}
 use Rattle.kz_model.specs.declared.supply.Answer.TheVariants as answer
 use Rattle.kz_model.specs.declared.supply.SupplyEntry.{SupplyEntry}
-use Rattle.kz_model.specs.Journal.{log_at}
+use Rattle.kz_model.specs.Run.Journal.{log_at}
 use Rattle.kz_supply.specs.declared.pages.Denied.{Denied}
 use Rattle.kz_supply.specs.declared.pages.Denied.TheVariants as denied
 use Rattle.kz_supply.specs.declared.pages.Grant.{Grant}

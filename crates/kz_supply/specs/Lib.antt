@@ -6,3 +6,4 @@ pub mod Solo
 pub mod ThinSolo
 pub mod Uses
 pub mod Store
+pub mod Pages

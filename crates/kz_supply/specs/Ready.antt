@@ -13,7 +13,8 @@ use Rattle.kz_supply.specs.declared.ready.ReadyBase.{ReadyBase}
 use Rattle.kz_supply.specs.declared.ready.Readied.TheVariants as readied
 use Rattle.kz_supply.specs.Exchange.{Exchange, ask_for_chunk, ask_for_frames, chunk_answer, frames_answer}
 
--- the zone's parameters, for how many chunks there is room, the answer that is ready, the exchanges since the start, how many of the packs given back were handed out, and the packs left to hand out, the oldest first
+-- the zone's parameters, for how many chunks there is room, the answer that is ready, the exchanges since the start,
+-- how many of the packs given back were handed out, and the packs left to hand out, the oldest first
 pub record Ready : Type 0 where
   pub params : ZoneParams
   pub chunks : ℕ
@@ -80,8 +81,10 @@ FitsReady pages (readied.Chunk answer) = ForOk answer (λ grant. grant.frames �
 FitsReady pages (readied.Frames (Ok frames)) = frames ≡ zero_frames pages
 FitsReady pages (readied.Frames (Err refused)) = (free : ℕ) × (refused ≡ NoFrames free)
 
--- One answer at most is got before. There is room for the backs, and those that were not handed out wait, each of the pages of a chunk.
-pub record IsGot (params : ZoneParams) (chunks : ℕ) (ready : Readied) (exchanges : List Exchange) (waiting : List (List (List ℕ))) (most_exchanges most_packs : ℕ) : Type 0 where
+-- One answer at most is got before. There is room for the backs, and those that were not handed out wait, each of the
+-- pages of a chunk.
+pub record IsGot (params : ZoneParams) (chunks : ℕ) (ready : Readied) (exchanges : List Exchange)
+    (waiting : List (List (List ℕ))) (most_exchanges most_packs : ℕ) : Type 0 where
   pub once : length exchanges + answers_ready ready ≤ backs_in exchanges + 1
   pub backs : backs_in exchanges ≤ chunks
   pub left : length waiting ≤ backs_in exchanges

@@ -3,7 +3,7 @@ use Rattle.std.specs.Prelude.{ℕ, ◌≡◌, ◌-◌, ◌/◌, List, [], ◌∷
 use Rattle.std.specs.List.{fold}
 use Rattle.kz_model.specs.declared.supply.SupplyEntry.{SupplyEntry}
 use Rattle.kz_supply.specs.Exchange.{Exchange, entries_of}
-use Rattle.kz_model.specs.Supply.{Stock, stocked, stock_after, pages_left, supply_answers}
+use Rattle.kz_model.specs.Run.Supply.{Stock, opening_stock, stock_after, pages_left, supply_answers}
 
 -- the frames that it began with, the pages of each submap, for how many entries its log has room, and its log
 pub record Supply : Type 0 where
@@ -17,7 +17,7 @@ abbrev pub stock_with : Stock → SupplyEntry → Stock
 stock_with stock entry = stock_after stock entry.ask entry.answer
 
 abbrev pub stock_of : Supply → Stock
-stock_of s = fold stock_with (stocked s.frames) s.log
+stock_of s = fold stock_with (opening_stock s.frames) s.log
 
 -- how many frames are out
 abbrev pub frames_out : Supply → ℕ

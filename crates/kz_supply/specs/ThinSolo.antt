@@ -1,8 +1,8 @@
 -- What one zone's use of a supply with fewer frames made can answer, and what stays the same.
 use Rattle.std.specs.Prelude.{ℕ, ◌+◌, ◌&&◌, ◌||◌, Bool, nat_lt}
 use Rattle.kz_model.specs.declared.record.ZoneParams.{ZoneParams}
-use Rattle.kz_model.specs.Amounts.{granted_in}
-use Rattle.kz_model.specs.Supply.{pages_left}
+use Rattle.kz_model.specs.Run.Supply.{granted_in}
+use Rattle.kz_model.specs.Run.Supply.{pages_left}
 use Rattle.kz_supply.specs.Supply.{stock_of, room_left}
 use Rattle.kz_supply.specs.Solo.{Start, no_start, supply_at, entries_since}
 use Rattle.kz_supply.specs.Thin.{ThinSupply, has_made}
@@ -29,4 +29,5 @@ can_give entries p s = nat_lt 0 (room_left s.counted) && may_grant p.pages entri
 
 -- the ask for a chunk too, or its refusal where the submap has too few pages left
 abbrev pub can_place : ℕ → ZoneParams → ThinSupply → Bool
-can_place entries p s = nat_lt 0 (room_left s.counted) && (nat_lt (pages_left s.counted.pages (stock_of s.counted) p.submap) p.pages || may_grant p.pages entries s)
+can_place entries p s = nat_lt 0 (room_left s.counted)
+    && (nat_lt (pages_left s.counted.pages (stock_of s.counted) p.submap) p.pages || may_grant p.pages entries s)

@@ -19,4 +19,8 @@ abbrev pub thin_exchanges_of : ThinPages → List Exchange
 thin_exchanges_of s = exchanges_at s.params.zone s.supply.now.counted.log
 
 abbrev pub thin_base_of : ThinPages → ThinStart
-thin_base_of s = record { counted = record { borrow = s.supply.ghost_name; supply = supply_at s.start s.supply.now.counted }; made = s.supply.now.made }
+thin_base_of s = record {
+  counted =
+      record { borrow = s.supply.ghost_name; supply = supply_at s.start s.supply.now.counted };
+  made = s.supply.now.made;
+}

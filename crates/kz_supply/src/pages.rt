@@ -1,10 +1,10 @@
 //! What one zone sees of the supply.
-ghost use Rattle.std.specs.Prelude.{◌≡◌, ◌+◌, ◌<◌, ◌++◌, [], ◌∷◌, ℕ, Bool, List, length, if◌then◌else◌, is_ok, IfOk, IfErr, IsTrue};
-ghost use Rattle.kz_model.specs.declared.record.ZoneParams.{ZoneParams};
+ghost use Rattle.std.specs.Prelude.{◌≡◌, ◌+◌, ◌<◌, [], ◌∷◌, ℕ, length, if◌then◌else◌, is_ok, IfOk, IfErr, IsTrue};
 ghost use Rattle.kz_model.specs.declared.supply.Ask.TheVariants.{Back};
 ghost use Rattle.kz_model.specs.declared.supply.Answer.TheVariants.{Taken};
 ghost use Rattle.kz_frame.specs.Frames.{zero_frames};
-ghost use Rattle.kz_supply.specs.Exchange.{Exchange, ask_for_chunk, ask_for_frames, chunk_answer, denial, frames_answer};
+ghost use Rattle.kz_supply.specs.Exchange.{ask_for_chunk, ask_for_frames, chunk_answer, denial, frames_answer};
+ghost use Rattle.kz_supply.specs.Pages.{SupplyView, IsUsed};
 
 use kz_frame::Frames;
 use kz_model::Answer;
@@ -70,57 +70,28 @@ pub trait Pages {
     // What stays the same through all calls, as the implementation tells it.
     type Base;
 
-    // The zone.
-    ghost params: { Self → ZoneParams };
-
-    // The zone's asks so far, each with its answer.
-    ghost exchanges: { Self → List Exchange };
-
-    // Which asks it can answer now.
-    ghost can_chunk: { Self → Bool };
-
-    ghost can_frames: { Self → Bool };
-
-    // For how many backs it has room.
-    ghost backs: { Self → ℕ };
-
-    // How many chunks it may still grant.
-    ghost grants: { Self → ℕ };
-
-    ghost base: { Self → Self.Base };
+    // What the zone sees now.
+    ghost seen: { Self → SupplyView Self.Base };
 
     /// Asks for a new chunk.
     fn chunk(&mut self) -> Result<Grant, Denied>
-        requires { IsTrue (can_chunk self.old) }
-        ensures asked { exchanges self.new ≡ exchanges self.old ++ (ask_for_chunk (params self.old), chunk_answer result) ∷ [] }
-        ensures zero { IfOk result (λ grant. grant.frames ≡ zero_frames (params self.old).pages) }
-        ensures granted { grants self.old ≡ grants self.new + (if is_ok result then 1 else 0) }
-        ensures params { params self.new ≡ params self.old }
-        ensures base { base self.new ≡ base self.old }
-        ensures chunks { IsTrue (can_chunk self.new) → IsTrue (can_chunk self.old) }
-        ensures frames { IsTrue (can_frames self.new) → IsTrue (can_frames self.old) };
+        requires { IsTrue (seen self.old).can_chunk }
+        ensures used { IsUsed (seen self.old) (seen self.new)
+            ((ask_for_chunk (seen self.old).params, chunk_answer result) ∷ []) 0 (if is_ok result then 1 else 0) }
+        ensures zero { IfOk result (λ grant. grant.frames ≡ zero_frames (seen self.old).params.pages) };
 
     /// Asks for the frames of a chunk that the zone has.
     fn frames(&mut self) -> Result<Frames, Denied>
-        requires { IsTrue (can_frames self.old) }
-        ensures asked { exchanges self.new ≡ exchanges self.old ++ (ask_for_frames (params self.old), frames_answer result) ∷ [] }
+        requires { IsTrue (seen self.old).can_frames }
+        ensures used { IsUsed (seen self.old) (seen self.new)
+            ((ask_for_frames (seen self.old).params, frames_answer result) ∷ []) 0 0 }
         ensures space { IfErr result (λ denied. (free : ℕ) × (denied ≡ Denied.NoFrames free)) }
-        ensures zero { IfOk result (λ frames. frames ≡ zero_frames (params self.old).pages) }
-        ensures granted { grants self.new ≡ grants self.old }
-        ensures params { params self.new ≡ params self.old }
-        ensures base { base self.new ≡ base self.old }
-        ensures chunks { IsTrue (can_chunk self.new) → IsTrue (can_chunk self.old) }
-        ensures frames { IsTrue (can_frames self.new) → IsTrue (can_frames self.old) };
+        ensures zero { IfOk result (λ frames. frames ≡ zero_frames (seen self.old).params.pages) };
 
     /// Gives the frames of a chunk back.
     fn back(&mut self, frames: Frames)
-        requires room { 0 < backs self.old }
-        requires whole { length frames ≡ (params self.old).pages }
-        ensures asked { exchanges self.new ≡ exchanges self.old ++ (Back (params self.old).pages, Taken) ∷ [] }
-        ensures room { backs self.old ≡ backs self.new + 1 }
-        ensures granted { grants self.new ≡ grants self.old }
-        ensures params { params self.new ≡ params self.old }
-        ensures base { base self.new ≡ base self.old }
-        ensures chunks { IsTrue (can_chunk self.new) → IsTrue (can_chunk self.old) }
-        ensures frames { IsTrue (can_frames self.new) → IsTrue (can_frames self.old) };
+        requires room { 0 < (seen self.old).backs }
+        requires whole { length frames ≡ (seen self.old).params.pages }
+        ensures used { IsUsed (seen self.old) (seen self.new) ((Back (seen self.old).params.pages, Taken) ∷ []) 0 0 }
+        ensures room { (seen self.old).backs ≡ (seen self.new).backs + 1 };
 }

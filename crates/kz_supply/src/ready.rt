@@ -21,7 +21,8 @@ pub(crate) enum Readied {
     Frames(Result<Frames, Denied>),
 }
 
-/// For how many chunks there is room, how many of the packs given back were handed out, and the answer that was got before with its ask.
+/// For how many chunks there is room, how many of the packs given back were handed out, and the answer that was got
+/// before with its ask.
 ///
 /// Clauses alone see it: no value of it is made.
 #[derive(Clone, Copy, Debug, PartialEq, Eq)]
@@ -50,9 +51,18 @@ impl Model for ReadyPages {
 
     ghost Value = { Ready };
 
-    ghost view = { λ r. record { params = r.params; chunks = r.chunks; readied = r.readied; exchanges = r.exchanges.items; handed = backs_in r.exchanges.items - length r.waiting.items; waiting = r.waiting.items } };
+    ghost view = { λ r. record {
+      params = r.params;
+      chunks = r.chunks;
+      readied = r.readied;
+      exchanges =
+          r.exchanges.items;
+      handed = backs_in r.exchanges.items - length r.waiting.items;
+      waiting = r.waiting.items;
+    } };
 
-    ghost invariant = { λ r. IsGot r.params r.chunks r.readied r.exchanges.items r.waiting.items (vec_capacity r.exchanges) (deque_capacity r.waiting) };
+    ghost invariant = { λ r. IsGot r.params r.chunks r.readied r.exchanges.items r.waiting.items
+        (vec_capacity r.exchanges) (deque_capacity r.waiting) };
 }
 
 impl ReadyPages {
@@ -61,7 +71,16 @@ impl ReadyPages {
 
     /// Room for the backs of so many chunks. No answer is ready.
     pub fn new(alloc: Global, params: &ZoneParams, chunks: u32) -> Result<ReadyPages, AllocError>
-        ensures { IfOk result (λ pages. pages ≡ record { params = params.now; chunks = chunks; readied = readied.Nothing; exchanges = []; handed = 0; waiting = [] }) }
+        ensures { IfOk result (λ pages. pages
+            ≡ record {
+              params = params.now;
+              chunks = chunks;
+              readied = readied.Nothing;
+              exchanges = [];
+              handed =
+                  0;
+              waiting = [];
+            }) }
     {
         let exchanges = Vec::with_capacity(alloc, chunks as usize + 1)?;
         let waiting = VecDeque::with_capacity(alloc, chunks as usize)?;
@@ -109,7 +128,11 @@ impl ReadyPages {
         ensures oldest { IfSome result (λ frames. self.old.waiting ≡ frames ∷ self.new.waiting) }
         ensures whole { IfSome result (λ frames. length frames ≡ self.old.params.pages) }
         ensures none { IfNone result (self.old.waiting ≡ []) }
-        ensures rest { self.new ≡ record self.old { handed = self.old.handed + (if is_some result then 1 else 0); waiting = drop 1 self.old.waiting } }
+        ensures rest { self.new ≡ record self.old {
+          handed = self.old.handed
+              + (if is_some result then 1 else 0);
+          waiting = drop 1 self.old.waiting;
+        } }
         ensures once { IsTrue (has_asked self.new.exchanges) → self.new.readied ≡ readied.Nothing }
         ensures left { length self.new.waiting + self.new.handed ≡ backs_in self.new.exchanges }
     {
@@ -136,24 +159,26 @@ impl Pages for ReadyPages {
 
     type Base = ReadyBase;
 
-    ghost params = { λ r. r.params };
-
-    ghost exchanges = { λ r. r.exchanges };
-
-    ghost can_chunk = { λ r. is_chunk_ready r.readied };
-
-    ghost can_frames = { λ r. is_frames_ready r.readied };
-
-    ghost backs = { λ r. r.chunks - backs_in r.exchanges };
-
-    ghost grants = { λ r. grants_ready r.readied };
-
-    ghost base = { base_of };
+    ghost seen = { λ r. record {
+      params = r.params;
+      exchanges = r.exchanges;
+      can_chunk =
+          is_chunk_ready r.readied;
+      can_frames = is_frames_ready r.readied;
+      backs =
+          r.chunks - backs_in r.exchanges;
+      grants = grants_ready r.readied;
+      base = base_of r;
+    } };
 
     fn chunk(&mut self) -> Result<Grant, Denied>
         requires { IsTrue (is_chunk_ready self.old.readied) }
         ensures ready { self.old.readied ≡ readied.Chunk result }
-        ensures asked { self.new ≡ record self.old { readied = readied.Nothing; exchanges = self.old.exchanges ++ (ask_for_chunk self.old.params, chunk_answer result) ∷ [] } }
+        ensures asked { self.new ≡ record self.old {
+          readied = readied.Nothing;
+          exchanges = self.old.exchanges
+              ++ (ask_for_chunk self.old.params, chunk_answer result) ∷ [];
+        } }
         ensures zero { IfOk result (λ grant. grant.frames ≡ zero_frames self.old.params.pages) }
         ensures base { base_of self.new ≡ base_of self.old }
     {
@@ -172,7 +197,11 @@ impl Pages for ReadyPages {
     fn frames(&mut self) -> Result<Frames, Denied>
         requires { IsTrue (is_frames_ready self.old.readied) }
         ensures ready { self.old.readied ≡ readied.Frames result }
-        ensures asked { self.new ≡ record self.old { readied = readied.Nothing; exchanges = self.old.exchanges ++ (ask_for_frames self.old.params, frames_answer result) ∷ [] } }
+        ensures asked { self.new ≡ record self.old {
+          readied = readied.Nothing;
+          exchanges = self.old.exchanges
+              ++ (ask_for_frames self.old.params, frames_answer result) ∷ [];
+        } }
         ensures space { IfErr result (λ denied. (free : ℕ) × (denied ≡ NoFrames free)) }
         ensures zero { IfOk result (λ frames. frames ≡ zero_frames self.old.params.pages) }
         ensures base { base_of self.new ≡ base_of self.old }
@@ -191,7 +220,11 @@ impl Pages for ReadyPages {
     fn back(&mut self, frames: Frames)
         requires room { 0 < self.old.chunks - backs_in self.old.exchanges }
         requires whole { length frames ≡ self.old.params.pages }
-        ensures kept { self.new ≡ record self.old { exchanges = self.old.exchanges ++ (Back self.old.params.pages, Taken) ∷ []; waiting = self.old.waiting ++ frames ∷ [] } }
+        ensures kept { self.new ≡ record self.old {
+          exchanges = self.old.exchanges
+              ++ (Back self.old.params.pages, Taken) ∷ [];
+          waiting = self.old.waiting ++ frames ∷ [];
+        } }
         ensures base { base_of self.new ≡ base_of self.old }
     {
         let ask = Ask::Back {

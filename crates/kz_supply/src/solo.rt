@@ -8,7 +8,8 @@ use kz_frame::Frames;
 use kz_model::ZoneParams;
 use std::marker::{Model, PhantomData};
 
-/// Which supply a zone uses, and that supply as it was when the use began. Clauses alone see it: no value of it is made.
+/// Which supply a zone uses, and that supply as it was when the use began. Clauses alone see it: no value of it is
+/// made.
 #[derive(Drop)]
 pub struct SoloBase {
     marker: PhantomData<u8>,
@@ -64,19 +65,18 @@ impl Pages for SoloPages<'_> {
 
     type Base = SoloBase;
 
-    ghost params = { λ s. s.params };
-
-    ghost exchanges = { exchanges_of };
-
-    ghost can_chunk = { λ s. nat_lt 0 (room_left s.supply.now) };
-
-    ghost can_frames = { λ s. nat_lt 0 (room_left s.supply.now) };
-
-    ghost backs = { λ s. backs_left s.params.pages s.supply.now };
-
-    ghost grants = { λ s. grants_left s.params.submap s.params.pages s.supply.now };
-
-    ghost base = { base_of };
+    ghost seen = { λ s. record {
+      params = s.params;
+      exchanges = exchanges_of s;
+      can_chunk =
+          nat_lt 0 (room_left s.supply.now);
+      can_frames = nat_lt 0 (room_left s.supply.now);
+      backs =
+          backs_left s.params.pages s.supply.now;
+      grants =
+          grants_left s.params.submap s.params.pages s.supply.now;
+      base = base_of s;
+    } };
 
     fn chunk(&mut self) -> Result<Grant, Denied> {
         self.supply

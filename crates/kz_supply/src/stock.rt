@@ -2,7 +2,7 @@
 ghost use Rattle.std.specs.Prelude.{◌≡◌, ◌+◌, ◌-◌, ◌<◌, ◌≤◌, ◌++◌, length, take, All, IfOk, vec_capacity};
 ghost use Rattle.kz_model.specs.declared.supply.Ask.TheVariants.{Chunk as AskChunk, Frames as AskFrames, Back};
 ghost use Rattle.kz_model.specs.declared.supply.Answer.TheVariants.{Taken};
-ghost use Rattle.kz_model.specs.Supply.{stocked, answer_of, stock_after, pages_left};
+ghost use Rattle.kz_model.specs.Run.Supply.{opening_stock, answer_of, stock_after, pages_left};
 ghost use Rattle.kz_frame.specs.Frames.{zero_frame, zero_frames};
 ghost use Rattle.kz_supply.specs.Exchange.{chunk_answer, frames_answer};
 ghost use Rattle.kz_supply.specs.Store.{IsEnough};
@@ -30,7 +30,13 @@ impl Model for Stock {
 
     ghost Value = { Store };
 
-    ghost view = { λ s. record { frames = s.frames; pages = s.pages; left = record { free = length s.free.items + s.unmade; cursors = s.cursors }; unmade = s.unmade } };
+    ghost view = { λ s. record {
+      frames = s.frames;
+      pages = s.pages;
+      left =
+          record { free = length s.free.items + s.unmade; cursors = s.cursors };
+      unmade = s.unmade;
+    } };
 
     ghost invariant = { λ s. IsStore s.frames s.pages s.unmade (vec_capacity s.free) s.free.items s.cursors };
 }
@@ -44,7 +50,8 @@ impl Stock {
         pages: u32,
     ) -> Result<Stock, AllocError>
         requires { made ≤ frames }
-        ensures { IfOk result (λ stock. stock ≡ record { frames = frames; pages = pages; left = stocked frames; unmade = frames - made }) }
+        ensures { IfOk result (λ stock. stock
+            ≡ record { frames = frames; pages = pages; left = opening_stock frames; unmade = frames - made }) }
     {
         let free = new_frames(alloc, made)?;
         Ok(Stock {
@@ -60,9 +67,13 @@ impl Stock {
     pub(crate) fn chunk(&mut self, submap: u32, pages: u32) -> Result<Grant, Denied>
         requires submap { submap < 5 }
         requires few { pages ≤ 8 }
-        requires enough { pages ≤ pages_left self.old.pages self.old.left submap → IsEnough pages self.old.unmade self.old.left }
+        requires enough { pages ≤ pages_left self.old.pages self.old.left submap →
+            IsEnough pages self.old.unmade self.old.left }
         ensures answer { chunk_answer result ≡ answer_of self.old.pages self.old.left (AskChunk submap pages) }
-        ensures left { self.new ≡ record self.old { left = stock_after self.old.left (AskChunk submap pages) (chunk_answer result) } }
+        ensures left { self.new ≡ record self.old {
+          left =
+              stock_after self.old.left (AskChunk submap pages) (chunk_answer result);
+        } }
         ensures zero { IfOk result (λ grant. grant.frames ≡ zero_frames pages) }
     {
         let page = self.cursors[submap as usize];
@@ -80,7 +91,10 @@ impl Stock {
         requires few { pages ≤ 8 }
         requires enough { IsEnough pages self.old.unmade self.old.left }
         ensures answer { frames_answer result ≡ answer_of self.old.pages self.old.left (AskFrames pages) }
-        ensures left { self.new ≡ record self.old { left = stock_after self.old.left (AskFrames pages) (frames_answer result) } }
+        ensures left { self.new ≡ record self.old {
+          left =
+              stock_after self.old.left (AskFrames pages) (frames_answer result);
+        } }
         ensures zero { IfOk result (λ frames. frames ≡ zero_frames pages) }
     {
         let free = self.free.len() as u32;

@@ -2,7 +2,7 @@
 ghost use Rattle.std.specs.Prelude.{◌≡◌, ◌<◌, ◌≤◌, [], length, IfOk};
 ghost use Rattle.kz_model.specs.declared.supply.Ask.TheVariants.{Chunk as AskChunk, Frames as AskFrames, Back};
 ghost use Rattle.kz_model.specs.declared.supply.Answer.TheVariants.{Taken};
-ghost use Rattle.kz_model.specs.Supply.{answer_of};
+ghost use Rattle.kz_model.specs.Run.Supply.{answer_of};
 ghost use Rattle.kz_frame.specs.Frames.{zero_frames};
 ghost use Rattle.kz_supply.specs.Exchange.{chunk_answer, frames_answer};
 ghost use Rattle.kz_supply.specs.Supply.{AreAnswered, stock_of, frames_out, with_entry};
@@ -51,7 +51,8 @@ impl Supply {
         requires some { 1 ≤ pages }
         requires few { pages ≤ 8 }
         ensures answer { chunk_answer result ≡ answer_of self.old.pages (stock_of self.old) (AskChunk submap pages) }
-        ensures logged { self.new ≡ with_entry (record { zone = zone; ask = AskChunk submap pages; answer = chunk_answer result }) self.old }
+        ensures logged { self.new
+            ≡ with_entry (record { zone = zone; ask = AskChunk submap pages; answer = chunk_answer result }) self.old }
         ensures answers { AreAnswered self.new }
         ensures zero { IfOk result (λ grant. grant.frames ≡ zero_frames pages) }
     {
@@ -64,7 +65,8 @@ impl Supply {
         requires some { 1 ≤ pages }
         requires few { pages ≤ 8 }
         ensures answer { frames_answer result ≡ answer_of self.old.pages (stock_of self.old) (AskFrames pages) }
-        ensures logged { self.new ≡ with_entry (record { zone = zone; ask = AskFrames pages; answer = frames_answer result }) self.old }
+        ensures logged { self.new
+            ≡ with_entry (record { zone = zone; ask = AskFrames pages; answer = frames_answer result }) self.old }
         ensures answers { AreAnswered self.new }
         ensures zero { IfOk result (λ frames. frames ≡ zero_frames pages) }
     {
@@ -75,7 +77,8 @@ impl Supply {
     pub fn back(&mut self, zone: u32, frames: Frames)
         requires room { length self.old.log < self.old.room }
         requires out { length frames ≤ frames_out self.old }
-        ensures logged { self.new ≡ with_entry (record { zone = zone; ask = Back (length frames); answer = Taken }) self.old }
+        ensures logged { self.new
+            ≡ with_entry (record { zone = zone; ask = Back (length frames); answer = Taken }) self.old }
         ensures answers { AreAnswered self.new }
     {
         self.thin.back(zone, frames);

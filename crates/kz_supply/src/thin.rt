@@ -2,7 +2,7 @@
 ghost use Rattle.std.specs.Prelude.{◌≡◌, ◌<◌, ◌≤◌, [], length, min, IfOk};
 ghost use Rattle.kz_model.specs.declared.supply.Ask.TheVariants.{Chunk as AskChunk, Frames as AskFrames, Back};
 ghost use Rattle.kz_model.specs.declared.supply.Answer.TheVariants.{Taken};
-ghost use Rattle.kz_model.specs.Supply.{answer_of, pages_left};
+ghost use Rattle.kz_model.specs.Run.Supply.{answer_of, pages_left};
 ghost use Rattle.kz_frame.specs.Frames.{zero_frames};
 ghost use Rattle.kz_supply.specs.Exchange.{chunk_answer, frames_answer};
 ghost use Rattle.kz_supply.specs.Supply.{AreAnswered, stock_of, frames_out};
@@ -16,7 +16,8 @@ use kz_model::{Answer, Ask, Items, SupplyEntry};
 use std::alloc::{AllocError, Global};
 use std::marker::Model;
 
-/// A supply like [`Supply`](crate::Supply), for a caller who knows how many of its frames can be out at once: memory is taken for so many, and the others are only counted.
+/// A supply like [`Supply`](crate::Supply), for a caller who knows how many of its frames can be out at once: memory is
+/// taken for so many, and the others are only counted.
 ///
 /// It takes all its memory when it is made.
 #[derive(Drop)]
@@ -28,17 +29,33 @@ pub struct ThinSupply {
 
 impl Model for ThinSupply {
     ghost use Rattle.std.specs.Prelude.{◌-◌, vec_capacity};
-    ghost use Rattle.kz_supply.specs.Thin.{ThinSupply as Seen, IsKept};
+    ghost use Rattle.kz_supply.specs.Thin.{ThinSupply as Seen, AgreesWithLog};
 
     ghost Value = { Seen };
 
-    ghost view = { λ s. record { counted = record { frames = s.stock.frames; pages = s.stock.pages; room = s.room; log = s.log.items }; made = s.stock.frames - s.stock.unmade } };
+    ghost view = { λ s. record {
+      counted =
+          record { frames = s.stock.frames; pages = s.stock.pages; room = s.room; log = s.log.items };
+      made =
+          s.stock.frames - s.stock.unmade;
+    } };
 
-    ghost invariant = { λ s. IsKept s.stock.left s.stock.unmade (vec_capacity s.log) (record { counted = record { frames = s.stock.frames; pages = s.stock.pages; room = s.room; log = s.log.items }; made = s.stock.frames - s.stock.unmade }) };
+    ghost invariant = { λ s. AgreesWithLog s.stock.left s.stock.unmade (vec_capacity s.log)
+        (record {
+          counted = record {
+            frames = s.stock.frames;
+            pages = s.stock.pages;
+            room = s.room;
+            log =
+                s.log.items;
+          };
+          made = s.stock.frames - s.stock.unmade;
+        }) };
 }
 
 impl ThinSupply {
-    /// A supply of so many free frames, of which so many are made, and so many pages in each submap, with room for so many entries in its log.
+    /// A supply of so many free frames, of which so many are made, and so many pages in each submap, with room for so
+    /// many entries in its log.
     pub fn new(
         alloc: Global,
         frames: u32,
@@ -46,7 +63,12 @@ impl ThinSupply {
         pages: u32,
         log_room: u32,
     ) -> Result<ThinSupply, AllocError>
-        ensures { IfOk result (λ supply. supply ≡ record { counted = record { frames = frames; pages = pages; room = log_room; log = [] }; made = min frames made }) }
+        ensures { IfOk result (λ supply. supply
+            ≡ record {
+              counted = record { frames = frames; pages = pages; room = log_room; log = [] };
+              made =
+                  min frames made;
+            }) }
     {
         let stock = Stock::new(alloc, frames, frames.min(made), pages)?;
         let log = Vec::with_capacity(alloc, log_room as usize)?;
@@ -63,9 +85,13 @@ impl ThinSupply {
         requires submap { submap < 5 }
         requires some { 1 ≤ pages }
         requires few { pages ≤ 8 }
-        requires made { pages ≤ pages_left self.old.counted.pages (stock_of self.old.counted) submap → HasMade pages self.old }
-        ensures answer { chunk_answer result ≡ answer_of self.old.counted.pages (stock_of self.old.counted) (AskChunk submap pages) }
-        ensures logged { self.new ≡ thin_with_entry (record { zone = zone; ask = AskChunk submap pages; answer = chunk_answer result }) self.old }
+        requires made { pages ≤ pages_left self.old.counted.pages (stock_of self.old.counted) submap →
+            HasMade pages self.old }
+        ensures answer { chunk_answer result
+            ≡ answer_of self.old.counted.pages (stock_of self.old.counted) (AskChunk submap pages) }
+        ensures logged { self.new
+            ≡ thin_with_entry (record { zone = zone; ask = AskChunk submap pages; answer = chunk_answer result })
+            self.old }
         ensures answers { AreAnswered self.new.counted }
         ensures zero { IfOk result (λ grant. grant.frames ≡ zero_frames pages) }
     {
@@ -82,8 +108,10 @@ impl ThinSupply {
         requires some { 1 ≤ pages }
         requires few { pages ≤ 8 }
         requires made { HasMade pages self.old }
-        ensures answer { frames_answer result ≡ answer_of self.old.counted.pages (stock_of self.old.counted) (AskFrames pages) }
-        ensures logged { self.new ≡ thin_with_entry (record { zone = zone; ask = AskFrames pages; answer = frames_answer result }) self.old }
+        ensures answer { frames_answer result
+            ≡ answer_of self.old.counted.pages (stock_of self.old.counted) (AskFrames pages) }
+        ensures logged { self.new
+            ≡ thin_with_entry (record { zone = zone; ask = AskFrames pages; answer = frames_answer result }) self.old }
         ensures answers { AreAnswered self.new.counted }
         ensures zero { IfOk result (λ frames. frames ≡ zero_frames pages) }
     {
@@ -98,7 +126,8 @@ impl ThinSupply {
     pub fn back(&mut self, zone: u32, frames: Frames)
         requires room { length self.old.counted.log < self.old.counted.room }
         requires out { length frames ≤ frames_out self.old.counted }
-        ensures logged { self.new ≡ thin_with_entry (record { zone = zone; ask = Back (length frames); answer = Taken }) self.old }
+        ensures logged { self.new
+            ≡ thin_with_entry (record { zone = zone; ask = Back (length frames); answer = Taken }) self.old }
         ensures answers { AreAnswered self.new.counted }
     {
         let ask = Ask::Back {

@@ -8,7 +8,8 @@ use kz_frame::Frames;
 use kz_model::ZoneParams;
 use std::marker::{Model, PhantomData};
 
-/// Which supply a zone uses, and that supply as it was when the use began. Clauses alone see it: no value of it is made.
+/// Which supply a zone uses, and that supply as it was when the use began. Clauses alone see it: no value of it is
+/// made.
 #[derive(Drop)]
 pub struct ThinBase {
     marker: PhantomData<u8>,
@@ -22,7 +23,8 @@ impl Model for ThinBase {
     ghost view = { λ _. no_thin_start };
 }
 
-/// A zone's use of a supply with fewer frames made, on one thread. It can answer an ask where the log has room and the frames were made.
+/// A zone's use of a supply with fewer frames made, on one thread. It can answer an ask where the log has room and the
+/// frames were made.
 #[derive(Drop)]
 pub struct ThinPages<'a> {
     pub supply: &'a mut ThinSupply,
@@ -64,19 +66,18 @@ impl Pages for ThinPages<'_> {
 
     type Base = ThinBase;
 
-    ghost params = { λ s. s.params };
-
-    ghost exchanges = { thin_exchanges_of };
-
-    ghost can_chunk = { λ s. can_place s.start s.params s.supply.now };
-
-    ghost can_frames = { λ s. can_give s.start s.params s.supply.now };
-
-    ghost backs = { λ s. backs_left s.params.pages s.supply.now.counted };
-
-    ghost grants = { λ s. grants_left s.params.submap s.params.pages s.supply.now.counted };
-
-    ghost base = { thin_base_of };
+    ghost seen = { λ s. record {
+      params = s.params;
+      exchanges = thin_exchanges_of s;
+      can_chunk =
+          can_place s.start s.params s.supply.now;
+      can_frames = can_give s.start s.params s.supply.now;
+      backs =
+          backs_left s.params.pages s.supply.now.counted;
+      grants =
+          grants_left s.params.submap s.params.pages s.supply.now.counted;
+      base = thin_base_of s;
+    } };
 
     fn chunk(&mut self) -> Result<Grant, Denied> {
         self.supply

@@ -3,7 +3,7 @@ use Rattle.std.proofs.Common.{◌≡◌, ℕ, zero, suc, ◌+◌, ◌*◌, ◌�
 use Rattle.std.proofs.lemmas.List.{replicate-append-replicate, take-replicate}
 use Rattle.kz_model.specs.declared.record.Geometry.{Geometry}
 use Rattle.kz_model.specs.declared.record.ZoneParams.{ZoneParams}
-use Rattle.kz_model.specs.Pick.{fresh_chunk}
+use Rattle.kz_model.specs.Zone.Pick.{fresh_chunk}
 use Rattle.kz_frame.specs.Frames.{joined, zero_frames}
 use Rattle.kz_chunk.specs.Chunk.{mapped_with}
 use Rattle.kz_zone.specs.Chunks.{shape_of}

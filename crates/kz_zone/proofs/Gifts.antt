@@ -5,8 +5,8 @@ use Rattle.std.specs.Map.{lookup}
 use Rattle.std.specs.List.{remove}
 use Rattle.std.proofs.lemmas.Bool.{cases_eq, false_from_ne_true, not_from_false, lt-ltb, le-ltb}
 use Rattle.std.proofs.lemmas.List.{length-set, length_push, get_or_append_left, get_or_push}
-use Rattle.kz_model.specs.Zone.{Gift}
-use Rattle.kz_model.specs.Rules.{gift_place, gift_at}
+use Rattle.kz_model.specs.Zone.State.{Gift}
+use Rattle.kz_model.specs.Zone.Rules.{gift_place, gift_at}
 use Rattle.kz_zone.specs.declared.slots.Slot.{Slot}
 use Rattle.kz_zone.specs.declared.slots.Ends.{Ends}
 use Rattle.kz_zone.specs.Slots.{is_free, key_of, gifts_in, no_slot, slot_at, key_at, same_key, is_before, AreEnds, IsFound, AreLinked, AreSlots}

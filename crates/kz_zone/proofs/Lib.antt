@@ -1,6 +1,5 @@
 pub mod Lists
 pub mod Callers
-pub mod Played
 pub mod Places
 pub mod OneChange
 pub mod Fresh
@@ -12,3 +11,4 @@ pub mod Unmapped
 pub mod Kept
 pub mod Links
 pub mod Gifts
+pub mod Asked

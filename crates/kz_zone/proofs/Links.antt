@@ -5,7 +5,7 @@ use Rattle.std.specs.Map.{lookup}
 use Rattle.std.proofs.lemmas.Bool.{cases_lt, cases_eq, cases_order, cases_Bool, cond-true, cond-false, and_parts, and_from, eqb-true, eq-eqb, lt-ltb, le-ltb}
 use Rattle.kz_zone.specs.declared.slots.Slot.{Slot}
 use Rattle.kz_zone.specs.declared.slots.Ends.{Ends}
-use Rattle.kz_zone.specs.Slots.{slot_at, key_at, same_key, NoneBetween, IsNext, is_before, AreEnds, IsFound, AreLinked}
+use Rattle.kz_zone.specs.Slots.{slot_at, key_at, same_key, NoneBetween, IsNextSlot, is_before, AreEnds, IsFound, AreLinked}
 
 -- ---- keys
 
@@ -131,13 +131,13 @@ module _ (old new : List Slot) (key : ℕ × ℕ) (put : IsPut old new key) wher
     none_behind = none_behind_new;
   }
 
-  next_new : (place : ℕ) → place ≡ length old → IsNext new place (slot_at new place).next
+  next_new : (place : ℕ) → place ≡ length old → IsNextSlot new place (slot_at new place).next
   next_new place is =
-      let end : IsNext new (length old) None = λ k above below e. let size = put.size in absurd (omega arith) in
-      subst (λ k. IsNext new k (slot_at new k).next) (sym is) (subst (IsNext new (length old)) (sym put.new_next) end)
+      let end : IsNextSlot new (length old) None = λ k above below e. let size = put.size in absurd (omega arith) in
+      subst (λ k. IsNextSlot new k (slot_at new k).next) (sym is) (subst (IsNextSlot new (length old)) (sym put.new_next) end)
 
   -- a slot whose next stays, unless it was the last for the key
-  next_old : (place : ℕ) → place < length old → (next : Option ℕ) → IsNext old place next → (next ≡ None → key ≡ key_at old place → ⊥) → IsNext new place next
+  next_old : (place : ℕ) → place < length old → (next : Option ℕ) → IsNextSlot old place next → (next ≡ None → key ≡ key_at old place → ⊥) → IsNextSlot new place next
   next_old place lt None h other = subst (λ q. NoneBetween new q place (length new)) (sym (put.keys place lt)) (none_more (key_at old place) place (other refl) h)
   next_old place lt (Some next) h other =
       let size = put.size in
@@ -148,7 +148,7 @@ module _ (old new : List Slot) (key : ℕ × ℕ) (put : IsPut old new key) wher
         subst (λ q. NoneBetween new q place next) (sym (put.keys place lt)) (none_yet (key_at old place) place next (omega arith) h.3),
       )
 
-  next_last : (ends : Ends) → AreEnds old key ends → IsNext new ends.last (Some (length old))
+  next_last : (ends : Ends) → AreEnds old key ends → IsNextSlot new ends.last (Some (length old))
   next_last ends h =
       let size = put.size in
       let was : key_at new ends.last ≡ key = put.keys ends.last h.last ∙ h.last_key in
@@ -172,7 +172,7 @@ module _ (old new : List Slot) (key : ℕ × ℕ) (put : IsPut old new key) wher
       let none : IsFound old key None = subst (IsFound old key) absent (h.found key) in
       record {
         next = λ place lt. elim (old_or_new place lt) [
-          | inl less ↦ subst (IsNext new place) (sym (nexts place less)) (next_old place less (slot_at old place).next (h.next place less) (λ _ e. none place less (sym e)))
+          | inl less ↦ subst (IsNextSlot new place) (sym (nexts place less)) (next_old place less (slot_at old place).next (h.next place less) (λ _ e. none place less (sym e)))
           | inr is ↦ next_new place is
         ];
         found = found_by new index left key (record { first = Some (length old); last = length old }) says (found_first none) (λ q other. found_other q other (lookup (same_key q) index) (h.found q));
@@ -188,15 +188,15 @@ module _ (old new : List Slot) (key : ℕ × ℕ) (put : IsPut old new key) wher
       record {
         next = λ place lt. elim (old_or_new place lt) [
           | inl less ↦ elim (cases_eq place ends.last) [
-            | inl is ↦ subst (λ k. IsNext new k (slot_at new k).next) (sym is) (subst (IsNext new ends.last) (sym last) (next_last ends was))
-            | inr apart ↦ subst (IsNext new place) (sym (nexts place less apart)) (not_last place less apart (slot_at old place).next (h.next place less) was)
+            | inl is ↦ subst (λ k. IsNextSlot new k (slot_at new k).next) (sym is) (subst (IsNextSlot new ends.last) (sym last) (next_last ends was))
+            | inr apart ↦ subst (IsNextSlot new place) (sym (nexts place less apart)) (not_last place less apart (slot_at old place).next (h.next place less) was)
           ]
           | inr is ↦ next_new place is
         ];
         found = found_by new index left key (record { first = option_or ends.first (Some (length old)); last = length old }) says (found_again ends was) (λ q other. found_other q other (lookup (same_key q) index) (h.found q));
       }
     where
-      not_last : (place : ℕ) → place < length old → (place ≡ ends.last → ⊥) → (next : Option ℕ) → IsNext old place next → AreEnds old key ends → IsNext new place next
+      not_last : (place : ℕ) → place < length old → (place ≡ ends.last → ⊥) → (next : Option ℕ) → IsNextSlot old place next → AreEnds old key ends → IsNextSlot new place next
       not_last place less apart None is was = next_old place less None is (λ _ e. apart (is_last ends was place less is e))
       not_last place less apart (Some next) is was = next_old place less (Some next) is (λ none e. absurd (cc))
 
@@ -214,7 +214,7 @@ module _ (old new : List Slot) (at : ℕ) (marked : IsMarked old new at) where
   none_still : (q : ℕ × ℕ) (low high : ℕ) → NoneBetween old q low high → NoneBetween new q low high
   none_still q low high h place above below e = h place above below (sym (marked.keys place) ∙ e)
 
-  next_still : (place : ℕ) (next : Option ℕ) → IsNext old place next → IsNext new place next
+  next_still : (place : ℕ) (next : Option ℕ) → IsNextSlot old place next → IsNextSlot new place next
   next_still place None h =
       subst (λ q. NoneBetween new q place (length new)) (sym (marked.keys place)) (subst (NoneBetween new (key_at old place) place) (sym marked.size) (none_still (key_at old place) place (length old) h))
   next_still place (Some next) h =
@@ -238,15 +238,15 @@ module _ (old new : List Slot) (at : ℕ) (marked : IsMarked old new at) where
     none_behind = subst (NoneBetween new q ends.last) (sym size) (none_still q ends.last (length old) h.none_behind);
   }
 
-  first_next : (key : ℕ × ℕ) (next : Option ℕ) → key_at old at ≡ key → IsNext old at next → IfSome next (λ first. (first < length new) × (key_at new first ≡ key))
+  first_next : (key : ℕ × ℕ) (next : Option ℕ) → key_at old at ≡ key → IsNextSlot old at next → IfSome next (λ first. (first < length new) × (key_at new first ≡ key))
   first_next key None here h = tt
   first_next key (Some next) here h = let size = marked.size in let within = h.1 in (omega arith, marked.keys next ∙ h.2 ∙ here)
 
-  before_next : (place : ℕ) (next : Option ℕ) → IsNext old at next → place ≤ at → is_before place next ≡ true
+  before_next : (place : ℕ) (next : Option ℕ) → IsNextSlot old at next → place ≤ at → is_before place next ≡ true
   before_next place None is few = refl
   before_next place (Some next) is few = let above = is.0 in lt-ltb place next (omega arith)
 
-  from_next : (key : ℕ × ℕ) (place : ℕ) (next : Option ℕ) → key_at old at ≡ key → IsNext old at next → at < place → place < length old → key_at old place ≡ key → is_before place next ≡ false
+  from_next : (key : ℕ × ℕ) (place : ℕ) (next : Option ℕ) → key_at old at ≡ key → IsNextSlot old at next → at < place → place < length old → key_at old place ≡ key → is_before place next ≡ false
   from_next key place None here is above lt e = absurd (is place above lt (e ∙ sym here))
   from_next key place (Some next) here is above lt e = elim (cases_lt place next) [
     | inl less ↦ absurd (is.3 place above less (e ∙ sym here))
@@ -254,7 +254,7 @@ module _ (old new : List Slot) (at : ℕ) (marked : IsMarked old new at) where
   ]
 
   -- all before the next are taken, and no other is
-  taken_next : (key : ℕ × ℕ) (next : Option ℕ) → key_at old at ≡ key → IsNext old at next →
+  taken_next : (key : ℕ × ℕ) (next : Option ℕ) → key_at old at ≡ key → IsNextSlot old at next →
       ((place : ℕ) → place < length old → key_at old place ≡ key → (slot_at old place).taken ≡ nat_lt place at) →
       (place : ℕ) → place < length old → key_at old place ≡ key → (slot_at new place).taken ≡ is_before place next
   taken_next key next here is h place lt e = elim (cases_order place at) [
@@ -272,7 +272,7 @@ module _ (old new : List Slot) (at : ℕ) (marked : IsMarked old new at) where
       let size = marked.size in
       let was : AreEnds old key ends = subst (IsFound old key) present (h.found key) in
       let there : (at < length old) × (key_at old at ≡ key) = subst (λ first. IfSome first (λ first. (first < length old) × (key_at old first ≡ key))) first was.first in
-      let is : IsNext old at (slot_at old at).next = h.next at there.0 in
+      let is : IsNextSlot old at (slot_at old at).next = h.next at there.0 in
       let here : AreEnds new key (record { first = (slot_at old at).next; last = ends.last }) = record {
         first = first_next key (slot_at old at).next there.1 is;
         taken = λ place lt e. taken_next key (slot_at old at).next there.1 is (λ place lt e. was.taken place lt e ∙ ap (is_before place) first) place (omega arith) (sym (marked.keys place) ∙ e);
@@ -281,6 +281,6 @@ module _ (old new : List Slot) (at : ℕ) (marked : IsMarked old new at) where
         none_behind = subst (NoneBetween new key ends.last) (sym size) (none_still key ends.last (length old) was.none_behind);
       } in
       record {
-        next = λ place lt. subst (IsNext new place) (sym (marked.nexts place)) (next_still place (slot_at old place).next (h.next place (omega arith)));
+        next = λ place lt. subst (IsNextSlot new place) (sym (marked.nexts place)) (next_still place (slot_at old place).next (h.next place (omega arith)));
         found = found_by new index left key (record { first = (slot_at old at).next; last = ends.last }) says here (λ q other. found_still q (λ e. other (sym there.1 ∙ e)) (lookup (same_key q) index) (h.found q));
       }

@@ -4,7 +4,7 @@ use Rattle.std.specs.List.{sum}
 use Rattle.std.proofs.lemmas.List.{take_at, take-append-le, drop-append-le, take_all, take-append-drop, append-nil, get_or_push}
 use Rattle.std.proofs.lemmas.List.Sums.{sum_by-cons, sum_by_push}
 use Rattle.kz_model.specs.declared.step.Block.{Block}
-use Rattle.kz_model.specs.Rules.{newest, below_newest, last_list, before_last_list}
+use Rattle.kz_model.specs.Zone.Rules.{newest, below_newest, last_list, before_last_list}
 use Rattle.kz_zone.specs.Depot.{Depot as Seen, lists_of, row_of, drained, with_rest}
 
 sum-cons : (n : ℕ) (ns : List ℕ) → sum (n ∷ ns) ≡ n + sum ns
@@ -90,19 +90,19 @@ pub record Drains (z : Seen) (block : Block) (after : List ℕ) (rest : List Blo
 
 pub drains : (z : Seen) (magazine room n at : ℕ) (lengths before after : List ℕ) (blocks rest : List Block) (block : Block) → let d : Seen = record { magazine = magazine; room = room; lists = lists_of lengths blocks } in d ≡ z → lengths ≡ before ++ n ∷ [] → length blocks ≡ sum lengths → 0 < n → at ≡ length blocks - n →
     blocks ≡ rest ++ block ∷ [] → after ≡ with_rest before (n - 1) → Drains z block after rest
-drains z magazine room n at lengths before after blocks rest block is cut whole some begins popped left =
-    let size : length blocks ≡ length rest + 1 = ap length popped ∙ length-append rest (block ∷ []) in
+drains z magazine room n at lengths before after blocks rest block is cut whole some begins pop_effect left =
+    let size : length blocks ≡ length rest + 1 = ap length pop_effect ∙ length-append rest (block ∷ []) in
     let front : at ≡ sum before = front_length at n lengths before blocks cut whole begins in
     let within : at ≤ length rest = omega (arith, size, some, begins) in
-    let last : drop at blocks ≡ drop at rest ++ block ∷ [] = ap (drop at) popped ∙ drop-append-le at rest (block ∷ []) within in
-    let others : take at blocks ≡ take at rest = ap (take at) popped ∙ take-append-le at rest (block ∷ []) within in
+    let last : drop at blocks ≡ drop at rest ++ block ∷ [] = ap (drop at) pop_effect ∙ drop-append-le at rest (block ∷ []) within in
+    let others : take at blocks ≡ take at rest = ap (take at) pop_effect ∙ take-append-le at rest (block ∷ []) within in
     let ends : z.lists ≡ lists_of before (take at rest) ++ (drop at rest ++ block ∷ []) ∷ [] = ends_in z magazine room at n lengths before blocks is cut whole begins ∙ (λ i. lists_of before (others i) ++ last i ∷ []) in
     let long : length (drop at rest ++ block ∷ []) ≡ n = omega (arith, length-append (drop at rest) (block ∷ []), length-drop at rest, size, whole, ap sum cut, sum-push before n, begins) in
     let kept = by_rest front within (omega (arith, size, whole, ap sum cut, sum-push before n, front)) in
     record {
       last = sym (ap (λ xs. newest (last_list xs)) ends ∙ ap newest (last_list-push (lists_of before (take at rest)) (drop at rest ++ block ∷ [])) ∙ newest-push (drop at rest) block);
       left = kept.0 ∙ sym (ap drained ends ∙ drained-push (lists_of before (take at rest)) (drop at rest ++ block ∷ []) ∙ (λ i. lists_of before (take at rest) ++ (if nat_lt 1 (long i) then below_newest-push (drop at rest) block i ∷ [] else [])));
-      row = ap (λ (z : Seen). row_of z.lists) (sym is) ∙ row-lists_of lengths blocks whole ∙ popped ∙ ap (λ xs. xs ++ block ∷ []) (sym (row-lists_of after rest kept.1));
+      row = ap (λ (z : Seen). row_of z.lists) (sym is) ∙ row-lists_of lengths blocks whole ∙ pop_effect ∙ ap (λ xs. xs ++ block ∷ []) (sym (row-lists_of after rest kept.1));
       whole = kept.1;
     }
   where

@@ -5,9 +5,9 @@ use Rattle.std.proofs.lemmas.List.{length-set, length-map, map-set, get_or-map, 
 use Rattle.std.proofs.lemmas.List.Elements.{All-set, All-get_or}
 use Rattle.std.proofs.lemmas.Option.{slice_get-get_or, get_or_from_slice_get}
 use Rattle.kz_model.specs.declared.record.ZoneParams.{ZoneParams}
-use Rattle.kz_model.specs.Zone.{Chunk as State, no_chunk, chunk_at}
-use Rattle.kz_model.specs.Pick.{is_whole}
-use Rattle.kz_model.specs.Whole.{Rises, IsChunk}
+use Rattle.kz_model.specs.Zone.State.{Chunk as State, no_chunk, chunk_at}
+use Rattle.kz_model.specs.Zone.Pick.{is_whole}
+use Rattle.kz_model.specs.Zone.Whole.{Rises, IsChunk}
 use Rattle.kz_model.proofs.Standing.{chunk-set, mapped_within}
 use Rattle.kz_chunk.specs.Chunk.{Chunk}
 use Rattle.kz_queue.specs.declared.place.Place.{Place}

@@ -5,9 +5,9 @@ use Rattle.std.proofs.lemmas.List.{length-set}
 use Rattle.rand_pcg.specs.Lcg.{Lcg}
 use Rattle.kz_model.specs.declared.step.Block.{Block}
 use Rattle.kz_model.specs.declared.record.ZoneParams.{ZoneParams}
-use Rattle.kz_model.specs.Words.{words_after, rest_of}
-use Rattle.kz_model.specs.Zone.{Chunk, Shared, chunk_at}
-use Rattle.kz_model.specs.Pick.{chunk_to_pick, without_idle, block_picked, after_pick, picks}
+use Rattle.kz_model.specs.Zone.Words.{words_after, rest_of}
+use Rattle.kz_model.specs.Zone.State.{Chunk, Shared, chunk_at}
+use Rattle.kz_model.specs.Zone.Pick.{chunk_to_pick, without_idle, block_picked, after_pick, picks}
 use Rattle.kz_zone.specs.Pair.{Pair}
 use Rattle.kz_zone.specs.Chunks.{Chunks}
 use Rattle.kz_zone.specs.Picks.{Picked, block_by, without_block, with_first, picked}

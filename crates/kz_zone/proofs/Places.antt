@@ -8,9 +8,9 @@ use Rattle.std.proofs.lemmas.List.Quantifiers.{position-Some}
 use Rattle.std.proofs.lemmas.List.Sums.{fails_before_first}
 use Rattle.std.proofs.lemmas.List.Folds.{list_any_none, list_any_at}
 use Rattle.kz_model.specs.declared.record.ZoneParams.{ZoneParams}
-use Rattle.kz_model.specs.Zone.{Chunk, no_chunk, chunk_at}
-use Rattle.kz_model.specs.Pick.{is_part, is_whole, first_of_two, chunk_to_pick, unmapped_place}
-use Rattle.kz_model.specs.Whole.{IsChunk}
+use Rattle.kz_model.specs.Zone.State.{Chunk, no_chunk, chunk_at}
+use Rattle.kz_model.specs.Zone.Pick.{is_part, is_whole, first_of_two, chunk_to_pick, unmapped_place}
+use Rattle.kz_model.specs.Zone.Whole.{IsChunk}
 use Rattle.kz_model.proofs.Counting.{length_within}
 use Rattle.kz_model.proofs.Standing.{chunk-picked}
 use Rattle.kz_queue.specs.declared.place.Place.{Place}

@@ -2,9 +2,9 @@
 use Rattle.std.proofs.Common.{◌≡◌, ℕ, zero, suc, ◌+◌, ◌<◌, ◌≤◌, ◌==◌, ◌&&◌, Bool, true, false, cond, nat_lt, if◌then◌else◌, List, [], ◌∷◌, ◌++◌, take, slice_set, refl, ap, sym, ◌∙◌, subst, arith}
 use Rattle.kz_model.specs.declared.step.Block.{Block}
 use Rattle.kz_model.specs.declared.record.ZoneParams.{ZoneParams}
-use Rattle.kz_model.specs.Zone.{Chunk, Shared, chunk_at}
-use Rattle.kz_model.specs.Rules.{with_number, with_idle, all_idle}
-use Rattle.kz_model.specs.Whole.{is_block, one_if, times, times_idle, AreAway}
+use Rattle.kz_model.specs.Zone.State.{Chunk, Shared, chunk_at}
+use Rattle.kz_model.specs.Zone.Rules.{with_number, with_idle, all_idle}
+use Rattle.kz_model.specs.Zone.Whole.{is_block, one_if, times, times_idle, AreAway}
 use Rattle.kz_model.proofs.Counting.{same_block, times_idle-with_number, times-append, times-cut, times-flat}
 use Rattle.kz_model.proofs.Standing.{chunk-set, mapped_within}
 use Rattle.kz_zone.specs.Depot.{row_of}

@@ -8,16 +8,16 @@ use Rattle.std.proofs.lemmas.List.FromFn.{length-range_with_len}
 use Rattle.rand_pcg.specs.Lcg.{Lcg}
 use Rattle.kz_model.specs.declared.step.Block.{Block}
 use Rattle.kz_model.specs.declared.record.ZoneParams.{ZoneParams}
-use Rattle.kz_model.specs.Words.{words_after}
-use Rattle.kz_model.specs.Zone.{Chunk, Gift, Shared, no_chunk, chunk_at}
-use Rattle.kz_model.specs.Pick.{fresh_chunk, unmapped_place, grown, has_idle, chunk_to_pick}
-use Rattle.kz_model.specs.Rules.{ready, refilled}
-use Rattle.kz_model.specs.Whole.{IsChunk}
+use Rattle.kz_model.specs.Zone.Words.{words_after}
+use Rattle.kz_model.specs.Zone.State.{Chunk, Gift, Shared, no_chunk, chunk_at}
+use Rattle.kz_model.specs.Zone.Pick.{fresh_chunk, unmapped_place, grown, has_idle, chunk_to_pick}
+use Rattle.kz_model.specs.Zone.Rules.{ready, stack_refill}
+use Rattle.kz_model.specs.Zone.Whole.{IsChunk}
 use Rattle.kz_zone.specs.Chunks.{Chunks}
 use Rattle.kz_zone.specs.Transit.{Transit}
 use Rattle.kz_zone.specs.Pair.{Pair}
-use Rattle.kz_zone.specs.Room.{AreFit}
-use Rattle.kz_zone.specs.Zone.{Zone, Shows}
+use Rattle.kz_zone.specs.Room.{AreFitParams}
+use Rattle.kz_zone.specs.Zone.{Zone, StandsFor}
 use Rattle.kz_zone.specs.Picks.{Picked, picked}
 use Rattle.kz_zone.specs.Growing.{with_chunks, grown_chunks, readied_chunks}
 use Rattle.kz_zone.proofs.Places.{unmapped_there, idle_to_pick}
@@ -30,7 +30,7 @@ seen c lists t words = record { params = c.params; most_chunks = c.most; most_gi
 -- what a refill gives and leaves
 pub record Refills (z : Zone) (s : Shared) (blocks : List Block) (left : Zone) : Type 0 where
   pub stack : (ready z.params s []).0 ≡ blocks
-  pub shows : Shows left (ready z.params s []).1
+  pub shows : StandsFor left (ready z.params s []).1
 
 -- the state of a zone whose depot has no list
 abbrev without_lists : List Chunk → List Gift → ℕ → Shared
@@ -40,7 +40,7 @@ from_ready : (p : ZoneParams) (chunks : List Chunk) (transit : List Gift) (drawn
     PicksAs p (without_lists chunks transit drawn) (ready p (without_lists chunks transit drawn) []) (picked p.count p.magazine (readied_chunks p chunks) words)
 from_ready p chunks transit drawn words w =
     let s = without_lists chunks transit drawn in
-    elim (list_any (λ (chunk : Chunk). nat_lt 0 (length chunk.idle)) chunks) as (λ b. PicksAs p s (refilled p (if not b then grown p s else s)) (picked p.count p.magazine (if b then chunks else grown_chunks p chunks) words)) [
+    elim (list_any (λ (chunk : Chunk). nat_lt 0 (length chunk.idle)) chunks) as (λ b. PicksAs p s (stack_refill p (if not b then grown p s else s)) (picked p.count p.magazine (if b then chunks else grown_chunks p chunks) words)) [
       | true ↦ picks_as p p.magazine s words w
       | false ↦ let made = picks_as p p.magazine (grown p s) words w in record { blocks = made.blocks; chunks = made.chunks; depot = made.depot; transit = made.transit; words = made.words }
     ]
@@ -49,15 +49,15 @@ from_ready p chunks transit drawn words w =
 pub refills : (z : Zone) (before now after : Chunks) (n : ℕ) (t : Transit) (lists left : List (List Block)) (words drawn : Option Lcg) (s : Shared) → seen before lists t words ≡ z → lists ≡ [] → left ≡ lists → now.params ≡ before.params → now.chunks ≡ readied_chunks before.params before.chunks →
     n ≡ now.params.magazine →
     let by = picked now.params.count n now.chunks words in
-    after ≡ record now { chunks = by.chunks } → drawn ≡ by.words → Shows z s → Refills z s by.blocks (seen after left t drawn)
+    after ≡ record now { chunks = by.chunks } → drawn ≡ by.words → StandsFor z s → Refills z s by.blocks (seen after left t drawn)
 refills z before now after n t lists left words drawn s is none same params readied size taken rest h =
     let p = before.params in
     let by = picked now.params.count n now.chunks words in
     let whole : p.magazine ≡ n = sym (size ∙ ap (λ (q : ZoneParams). q.magazine) params) in
     let made : Picked = picked p.count p.magazine (readied_chunks p before.chunks) words in
     let same_picks : made ≡ by = λ i. picked (sym params i).count (whole i) (sym readied i) words in
-    let F : Zone → Type 0 = λ y. Shows y s → Refills y s by.blocks (seen after left t drawn) in
-    subst F is (λ (h : Shows (seen before lists t words) s).
+    let F : Zone → Type 0 = λ y. StandsFor y s → Refills y s by.blocks (seen after left t drawn) in
+    subst F is (λ (h : StandsFor (seen before lists t words) s).
     let is_state : s ≡ without_lists before.chunks t.gifts s.drawn = λ i. record { chunks = h.chunks i; depot = (h.depot ∙ none) i; transit = h.transit i; drawn = s.drawn } in
     let m : PicksAs p (without_lists before.chunks t.gifts s.drawn) (ready p (without_lists before.chunks t.gifts s.drawn) []) made = from_ready p before.chunks t.gifts s.drawn words h.words in
     let G : Shared → Type 0 = λ u. Refills (seen before lists t words) u by.blocks (seen after left t drawn) in
@@ -110,7 +110,7 @@ ready_to_pick before now some params readied kept =
     let more : 0 < before.params.count = omega (arith, some, ap (λ (p : ZoneParams). p.count) params) in
     sym (idle_to_pick now.params now.chunks some kept) ∙ ap (λ chunks. has_idle (with_chunks chunks)) readied ∙ readied_idle before.params before.chunks more
 
-pub some_filled : (before now : Chunks) (n : ℕ) (words : Option Lcg) (mid filled : Pair) → AreFit now.params → now.params ≡ before.params → now.chunks ≡ readied_chunks before.params before.chunks → ((ordinal : ℕ) → IsChunk now.params (chunk_at now.chunks ordinal)) → n ≡ now.params.magazine →
+pub some_filled : (before now : Chunks) (n : ℕ) (words : Option Lcg) (mid filled : Pair) → AreFitParams now.params → now.params ≡ before.params → now.chunks ≡ readied_chunks before.params before.chunks → ((ordinal : ℕ) → IsChunk now.params (chunk_at now.chunks ordinal)) → n ≡ now.params.magazine →
     filled ≡ record mid { blocks = mid.blocks ++ (picked now.params.count n now.chunks words).blocks } → 0 < length filled.blocks
 some_filled before now n words mid filled fit params readied kept size is =
     let some : 0 < n = omega (arith, size, fit.some_magazine) in

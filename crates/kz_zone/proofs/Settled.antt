@@ -3,9 +3,9 @@ use Rattle.std.proofs.Common.{◌≡◌, if◌then◌else◌, List, length, Opti
 use Rattle.std.proofs.lemmas.List.{length-map}
 use Rattle.rand_pcg.specs.Lcg.{Lcg}
 use Rattle.kz_model.specs.declared.step.Block.{Block}
-use Rattle.kz_model.specs.Zone.{Chunk, no_chunk}
-use Rattle.kz_model.specs.Pick.{is_whole}
-use Rattle.kz_model.specs.Rules.{all_idle}
+use Rattle.kz_model.specs.Zone.State.{Chunk, no_chunk}
+use Rattle.kz_model.specs.Zone.Pick.{is_whole}
+use Rattle.kz_model.specs.Zone.Rules.{all_idle}
 use Rattle.kz_model.proofs.Standing.{length-all_idle}
 use Rattle.kz_zone.specs.Chunks.{Chunks}
 use Rattle.kz_zone.specs.Transit.{Transit}

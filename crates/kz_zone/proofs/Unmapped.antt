@@ -8,10 +8,10 @@ use Rattle.std.proofs.lemmas.List.Folds.{map_fixed}
 use Rattle.std.proofs.lemmas.List.Sums.{sum_by-set, sum_by-le, sum_by-le-sum_by}
 use Rattle.kz_model.specs.declared.step.Block.{Block}
 use Rattle.kz_model.specs.declared.record.ZoneParams.{ZoneParams}
-use Rattle.kz_model.specs.Zone.{Chunk, no_chunk, chunk_at}
-use Rattle.kz_model.specs.Pick.{is_whole}
-use Rattle.kz_model.specs.Rules.{with_number, with_idle, all_idle, count_whole}
-use Rattle.kz_model.proofs.Shares.{count_by-map}
+use Rattle.kz_model.specs.Zone.State.{Chunk, no_chunk, chunk_at}
+use Rattle.kz_model.specs.Zone.Pick.{is_whole}
+use Rattle.kz_model.specs.Zone.Rules.{with_number, with_idle, all_idle, count_whole}
+use Rattle.kz_model.proofs.Counts.{count_by-map}
 use Rattle.kz_zone.specs.Chunks.{Chunks}
 use Rattle.kz_zone.specs.Unmapping.{unmapped_chunks}
 use Rattle.kz_zone.proofs.Places.{none_at}

@@ -3,11 +3,11 @@ use Rattle.std.specs.Prelude.{◌≡◌, ℕ, ◌≤◌, List, length, map}
 use Rattle.std.specs.List.{All}
 use Rattle.kz_model.specs.declared.record.Geometry.{Geometry}
 use Rattle.kz_model.specs.declared.record.ZoneParams.{ZoneParams}
-use Rattle.kz_model.specs.Zone.{Chunk as State, chunk_at}
-use Rattle.kz_model.specs.Whole.{IsChunk}
+use Rattle.kz_model.specs.Zone.State.{Chunk as State, chunk_at}
+use Rattle.kz_model.specs.Zone.Whole.{IsChunk}
 use Rattle.kz_chunk.specs.Chunk.{Chunk}
 use Rattle.kz_queue.specs.Shelf.{Shelf}
-use Rattle.kz_zone.specs.Room.{AreFit}
+use Rattle.kz_zone.specs.Room.{AreFitParams}
 use Rattle.kz_zone.specs.Zone.{place_of}
 
 -- the zone's parameters, for how many chunks there is room, the chunks by ordinal, and their first pages
@@ -29,7 +29,7 @@ shape_of p = record { element = p.element; count = p.count; pages = p.pages }
 
 -- chunks of one zone, in a row of this capacity, with a shelf that has the place of each
 pub record AreChunks (p : ZoneParams) (most capacity : ℕ) (chunks : List Chunk) (shelf : Shelf) : Type 0 where
-  pub fit : AreFit p
+  pub fit : AreFitParams p
   pub few : length chunks ≤ most
   pub most_chunks : most ≤ 4096
   pub enough : most ≤ capacity

@@ -2,7 +2,7 @@
 use Rattle.std.specs.Prelude.{◌≡◌, ℕ, ◌*◌, ◌≤◌, ◌<◌, nat_lt, if◌then◌else◌, List, [], ◌∷◌, ◌++◌, length, take, drop}
 use Rattle.std.specs.List.{All, sum, flat_map}
 use Rattle.kz_model.specs.declared.step.Block.{Block}
-use Rattle.kz_model.specs.Rules.{below_newest, last_list, before_last_list}
+use Rattle.kz_model.specs.Zone.Rules.{below_newest, last_list, before_last_list}
 
 -- the magazine's size, how many lists there can be, and the lists, the oldest first
 pub record Depot : Type 0 where
@@ -28,8 +28,10 @@ drained lists =
 abbrev pub with_rest : List ℕ → ℕ → List ℕ
 with_rest lengths rest = if nat_lt 0 rest then lengths ++ rest ∷ [] else lengths
 
--- lists of these lengths in a row, each of at least one block and at most a magazine's size, with room for all lists that there can be
-pub record IsDepot (magazine room : ℕ) (lengths : List ℕ) (blocks : List Block) (lengths_capacity blocks_capacity : ℕ) : Type 0 where
+-- lists of these lengths in a row, each of at least one block and at most a magazine's size, with room for all lists
+-- that there can be
+pub record IsDepot (magazine room : ℕ) (lengths : List ℕ) (blocks : List Block)
+    (lengths_capacity blocks_capacity : ℕ) : Type 0 where
   pub some : 0 < magazine
   pub fit : magazine ≤ 32
   pub within : length lengths ≤ room

@@ -11,5 +11,4 @@ pub mod Growth
 pub mod Growing
 pub mod Unmapping
 pub mod Fields
-pub mod Played
 pub mod Room

@@ -3,9 +3,9 @@ use Rattle.std.specs.Prelude.{ℕ, zero, suc, ◌%◌, List, [], ◌∷◌, slic
 use Rattle.std.specs.Option.{option_map_or}
 use Rattle.rand_pcg.specs.Lcg.{Lcg}
 use Rattle.kz_model.specs.declared.step.Block.{Block}
-use Rattle.kz_model.specs.Words.{word_of, rest_of}
-use Rattle.kz_model.specs.Zone.{Chunk, chunk_at}
-use Rattle.kz_model.specs.Pick.{chunk_to_pick, element_to_pick, without_idle}
+use Rattle.kz_model.specs.Zone.Words.{word_of, rest_of}
+use Rattle.kz_model.specs.Zone.State.{Chunk, chunk_at}
+use Rattle.kz_model.specs.Zone.Pick.{chunk_to_pick, element_to_pick, without_idle}
 
 -- the picked blocks, and the chunks and the words that are left
 pub record Picked : Type 0 where
@@ -31,5 +31,6 @@ with_first block rest = record rest { blocks = block ∷ rest.blocks }
 abbrev pub picked : ℕ → ℕ → List Chunk → Option Lcg → Picked
 picked count zero chunks words = record { blocks = []; chunks = chunks; words = words }
 picked count (suc n) chunks words =
-    option_map_or (λ ordinal. let block = block_by count chunks words ordinal in with_first block (picked count n (without_block block chunks) (rest_of words))) (chunk_to_pick count chunks)
+    option_map_or (λ ordinal. let block = block_by count chunks words ordinal in
+    with_first block (picked count n (without_block block chunks) (rest_of words))) (chunk_to_pick count chunks)
     (record { blocks = []; chunks = chunks; words = words })

@@ -1,7 +1,7 @@
 -- What a trim leaves of the chunks.
 use Rattle.std.specs.Prelude.{ℕ, if◌then◌else◌, List, map}
-use Rattle.kz_model.specs.Zone.{Chunk, no_chunk}
-use Rattle.kz_model.specs.Pick.{is_whole}
+use Rattle.kz_model.specs.Zone.State.{Chunk, no_chunk}
+use Rattle.kz_model.specs.Zone.Pick.{is_whole}
 
 -- the chunks after each that is wholly idle is unmapped
 abbrev pub unmapped_chunks : ℕ → List Chunk → List Chunk

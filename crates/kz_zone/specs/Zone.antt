@@ -3,18 +3,19 @@ use Rattle.std.specs.Prelude.{◌≡◌, ℕ, ◌+◌, ◌<◌, ◌≤◌, nat_l
 use Rattle.rand_pcg.specs.Lcg.{Lcg}
 use Rattle.kz_model.specs.declared.step.Block.{Block}
 use Rattle.kz_model.specs.declared.record.ZoneParams.{ZoneParams}
-use Rattle.kz_model.specs.Words.{words_after}
-use Rattle.kz_model.specs.Zone.{Chunk, Gift, Shared, chunk_at}
-use Rattle.kz_model.specs.Pick.{unmapped_place}
-use Rattle.kz_model.specs.Rules.{must_grow}
-use Rattle.kz_model.specs.Whole.{IsChunk}
+use Rattle.kz_model.specs.Zone.Words.{words_after}
+use Rattle.kz_model.specs.Zone.State.{Chunk, Gift, Shared, chunk_at}
+use Rattle.kz_model.specs.Zone.Pick.{unmapped_place}
+use Rattle.kz_model.specs.Zone.Rules.{must_grow}
+use Rattle.kz_model.specs.Zone.Whole.{IsChunk}
 use Rattle.kz_queue.specs.declared.place.Place.{Place}
 use Rattle.kz_queue.specs.declared.place.Place.TheVariants.{Part, Whole, Out, Gone}
 use Rattle.kz_supply.specs.declared.pages.Want.{Want}
 use Rattle.kz_supply.specs.declared.pages.Want.TheVariants as want
-use Rattle.kz_zone.specs.Room.{AreFit}
+use Rattle.kz_zone.specs.Room.{AreFitParams}
 
--- a zone by its parameters, for how many chunks and gifts it has room, its chunks with their first pages, depot and transit, and the words that it has not drawn yet
+-- a zone by its parameters, for how many chunks and gifts it has room, its chunks with their first pages, depot and
+-- transit, and the words that it has not drawn yet
 pub record Zone : Type 0 where
   pub params : ZoneParams
   pub most_chunks : ℕ
@@ -26,7 +27,7 @@ pub record Zone : Type 0 where
   pub words : Option Lcg
 
 -- The zone stands for this state: it has the same, and its words are those of its stream after the state's draws.
-pub record Shows (z : Zone) (s : Shared) : Type 0 where
+pub record StandsFor (z : Zone) (s : Shared) : Type 0 where
   pub chunks : s.chunks ≡ z.chunks
   pub depot : s.depot ≡ z.depot
   pub transit : s.transit ≡ z.transit
@@ -51,12 +52,14 @@ pub record IsSettled (old new : Zone) : Type 0 where
 -- where a chunk stands
 abbrev pub place_of : ℕ → Chunk → Place
 place_of count chunk =
-    if chunk.mapped then (if length chunk.idle == count then Whole else if nat_lt 0 (length chunk.idle) then Part else Out) else Gone
+    if chunk.mapped then (if length chunk.idle == count then Whole else if nat_lt 0 (length chunk.idle) then Part
+    else Out) else Gone
 
 -- the grant that filling an empty stack will ask for
 abbrev pub want_of : Zone → Want
 want_of z =
-    if must_grow (shared_of z) then (if is_some (unmapped_place z.chunks) then want.Frames else want.Chunk) else want.Nothing
+    if must_grow (shared_of z) then (if is_some (unmapped_place z.chunks) then want.Frames else want.Chunk)
+    else want.Nothing
 
 -- a block that the zone has
 pub record IsBlock (z : Zone) (block : Block) : Type 0 where
@@ -64,8 +67,8 @@ pub record IsBlock (z : Zone) (block : Block) : Type 0 where
   pub index : block.index < z.params.count
 
 -- What each zone keeps.
-pub record IsKept (z : Zone) : Type 0 where
-  pub fit : AreFit z.params
+pub record IsSoundZone (z : Zone) : Type 0 where
+  pub fit : AreFitParams z.params
   pub chunks : (ordinal : ℕ) → IsChunk z.params (chunk_at z.chunks ordinal)
   pub few : length z.chunks ≤ z.most_chunks
   pub bases : length z.bases ≡ length z.chunks

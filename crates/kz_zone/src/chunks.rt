@@ -1,11 +1,11 @@
 //! The chunks of a zone, each with its place on a shelf.
 ghost use Rattle.std.specs.Prelude.{◌≡◌, ℕ, ◌+◌, ◌*◌, ◌%◌, ◌<◌, ◌≤◌, ◌++◌, [], ◌∷◌, true, false, length, take, drop, map, replicate, is_some, slice_index, slice_set, slice_get, Some, IfOk, IfSome, IfNone};
-ghost use Rattle.kz_model.specs.Zone.{Chunk as State, chunk_at, no_chunk};
-ghost use Rattle.kz_model.specs.Pick.{is_whole, has_idle, chunk_to_pick, element_to_pick, without_idle, fresh_chunk, unmapped_place};
-ghost use Rattle.kz_model.specs.Rules.{with_idle, first_byte};
-ghost use Rattle.kz_model.specs.Whole.{IsChunk, times_idle};
+ghost use Rattle.kz_model.specs.Zone.State.{Chunk as State, chunk_at, no_chunk};
+ghost use Rattle.kz_model.specs.Zone.Pick.{is_whole, has_idle, chunk_to_pick, element_to_pick, without_idle, fresh_chunk, unmapped_place};
+ghost use Rattle.kz_model.specs.Zone.Rules.{with_idle, first_byte};
+ghost use Rattle.kz_model.specs.Zone.Whole.{IsChunk, times_idle};
 ghost use Rattle.kz_frame.specs.Frames.{zero_frames};
-ghost use Rattle.kz_zone.specs.Room.{AreFit};
+ghost use Rattle.kz_zone.specs.Room.{AreFitParams};
 ghost use Rattle.kz_zone.specs.Zone.{place_of};
 ghost use Rattle.kz_zone.specs.Chunks.{shape_of};
 ghost use Rattle.kz_zone.specs.Growing.{with_chunks};
@@ -37,7 +37,13 @@ impl Model for Chunks {
 
     ghost Value = { Seen };
 
-    ghost view = { λ c. record { params = c.params; most = c.most; chunks = states_of c.chunks.items; bases = bases_of c.chunks.items } };
+    ghost view = { λ c. record {
+      params = c.params;
+      most = c.most;
+      chunks = states_of c.chunks.items;
+      bases =
+          bases_of c.chunks.items;
+    } };
 
     ghost invariant = { λ c. AreChunks c.params c.most (vec_capacity c.chunks) c.chunks.items c.shelf };
 }
@@ -45,7 +51,7 @@ impl Model for Chunks {
 impl Chunks {
     /// No chunk, with room for so many.
     pub fn new(alloc: Global, params: ZoneParams, most: u32) -> Result<Chunks, AllocError>
-        requires fit { AreFit params }
+        requires fit { AreFitParams params }
         requires few { most ≤ 4096 }
         ensures { IfOk result (λ chunks. chunks ≡ record { params = params; most = most; chunks = []; bases = [] }) }
     {
@@ -93,7 +99,7 @@ impl Chunks {
 
     /// What the chunks keep.
     pub fn keeps(&self)
-        ensures fit { AreFit self.now.params }
+        ensures fit { AreFitParams self.now.params }
         ensures few { length self.now.chunks ≤ self.now.most }
         ensures most { self.now.most ≤ 4096 }
         ensures bases { length self.now.bases ≡ length self.now.chunks }
@@ -119,6 +125,7 @@ impl Chunks {
     /// The chunk to pick from.
     pub fn to_pick(&self) -> Option<u32>
         ensures ordinal { result ≡ chunk_to_pick self.now.params.count self.now.chunks }
+        ensures some { is_some result ≡ has_idle (with_chunks self.now.chunks) }
         ensures idle { IfSome result (λ ordinal. 0 < length (chunk_at self.now.chunks ordinal).idle) }
     {
         self.shelf.lowest(Place::Part).or(self.whole())
@@ -129,15 +136,18 @@ impl Chunks {
         ensures idle { result ≡ has_idle (with_chunks self.now.chunks) }
         ensures to_pick { result ≡ is_some (chunk_to_pick self.now.params.count self.now.chunks) }
     {
-        self.keeps();
         self.to_pick().is_some()
     }
 
     /// Takes out the idle element that a word picks.
     pub fn pick(&mut self, ordinal: u32, word: u32) -> u32
         requires { 0 < length (chunk_at self.old.chunks ordinal).idle }
-        ensures element { result ≡ element_to_pick self.old.params.count (word % self.old.params.count) (chunk_at self.old.chunks ordinal).idle }
-        ensures left { self.new ≡ record self.old { chunks = slice_set self.old.chunks ordinal (without_idle result (chunk_at self.old.chunks ordinal)) } }
+        ensures element { result ≡ element_to_pick self.old.params.count (word % self.old.params.count)
+            (chunk_at self.old.chunks ordinal).idle }
+        ensures left { self.new ≡ record self.old {
+          chunks =
+              slice_set self.old.chunks ordinal (without_idle result (chunk_at self.old.chunks ordinal));
+        } }
     {
         let chunk = &mut self.chunks[ordinal as usize];
         let before = place_of(chunk, self.params.count);
@@ -168,7 +178,10 @@ impl Chunks {
         requires there { ordinal < length self.old.chunks }
         requires unmapped { (chunk_at self.old.chunks ordinal).mapped ≡ false }
         requires zero { frames ≡ zero_frames self.old.params.pages }
-        ensures { self.new ≡ record self.old { chunks = slice_set self.old.chunks ordinal (fresh_chunk self.old.params) } }
+        ensures { self.new ≡ record self.old {
+          chunks =
+              slice_set self.old.chunks ordinal (fresh_chunk self.old.params);
+        } }
     {
         let chunk = &mut self.chunks[ordinal as usize];
         let before = place_of(chunk, self.params.count);
@@ -197,7 +210,11 @@ impl Chunks {
     pub fn add(&mut self, page: u32, frames: Frames)
         requires room { length self.old.chunks < self.old.most }
         requires zero { frames ≡ zero_frames self.old.params.pages }
-        ensures { self.new ≡ record self.old { chunks = self.old.chunks ++ fresh_chunk self.old.params ∷ []; bases = self.old.bases ++ page ∷ [] } }
+        ensures { self.new ≡ record self.old {
+          chunks = self.old.chunks ++ fresh_chunk self.old.params ∷ [];
+          bases =
+              self.old.bases ++ page ∷ [];
+        } }
     {
         let mut chunk = Chunk::new(self.shape(), page);
         chunk.map(frames);
@@ -214,7 +231,8 @@ impl Chunks {
         requires inside { off + len ≤ self.now.params.element }
         requires few { len ≤ 32 }
         ensures some { is_some result ≡ (chunk_at self.now.chunks block.chunk).mapped }
-        ensures bytes { IfSome result (λ bytes. bytes ≡ take len (drop (first_byte self.now.params block + off) (chunk_at self.now.chunks block.chunk).bytes)) }
+        ensures bytes { IfSome result (λ bytes. bytes
+            ≡ take len (drop (first_byte self.now.params block + off) (chunk_at self.now.chunks block.chunk).bytes)) }
     {
         let chunk = &self.chunks[block.chunk as usize];
         if chunk.mapped() {
@@ -230,7 +248,8 @@ impl Chunks {
         requires within { block.index < self.old.params.count }
         requires inside { off + length bytes.now ≤ self.old.params.element }
         ensures mapped { result ≡ (chunk_at self.old.chunks block.chunk).mapped }
-        ensures written { result ≡ true → self.new ≡ record self.old { chunks = with_written self.old.params block off bytes.now self.old.chunks } }
+        ensures written { result ≡ true → self.new
+            ≡ record self.old { chunks = with_written self.old.params block off bytes.now self.old.chunks } }
         ensures unchanged { result ≡ false → self.new ≡ self.old }
     {
         let chunk = &mut self.chunks[block.chunk as usize];
@@ -246,7 +265,10 @@ impl Chunks {
     pub fn zero(&mut self, block: Block)
         requires mapped { (chunk_at self.old.chunks block.chunk).mapped ≡ true }
         requires within { block.index < self.old.params.count }
-        ensures { self.new ≡ record self.old { chunks = with_written self.old.params block 0 (replicate self.old.params.element 0) self.old.chunks } }
+        ensures { self.new ≡ record self.old {
+          chunks =
+              with_written self.old.params block 0 (replicate self.old.params.element 0) self.old.chunks;
+        } }
     {
         let chunk = &mut self.chunks[block.chunk as usize];
         chunk.zero(block.index);

@@ -1,6 +1,6 @@
 //! The depot: lists of blocks, each of at most a magazine's size.
 ghost use Rattle.std.specs.Prelude.{◌≡◌, ◌*◌, ◌-◌, ◌<◌, ◌≤◌, ◌++◌, [], ◌∷◌, ◌↔◌, length, take, drop, IfOk, IfSome, IfNone, IsSome, IsTrue, nat_lt, true, false, vec_len, vec_capacity};
-ghost use Rattle.kz_model.specs.Rules.{newest, last_list, before_last_list};
+ghost use Rattle.kz_model.specs.Zone.Rules.{newest, last_list, before_last_list};
 ghost use Rattle.kz_zone.specs.Depot.{drained, row_of, with_rest};
 
 use crate::Pair;
@@ -26,15 +26,22 @@ impl Model for Depot {
 
     ghost Value = { Seen };
 
-    ghost view = { λ d. record { magazine = d.magazine; room = d.room; lists = lists_of d.lengths.items d.blocks.items } };
+    ghost view = { λ d. record {
+      magazine = d.magazine;
+      room = d.room;
+      lists =
+          lists_of d.lengths.items d.blocks.items;
+    } };
 
-    ghost invariant = { λ d. IsDepot d.magazine d.room d.lengths.items d.blocks.items (vec_capacity d.lengths) (vec_capacity d.blocks) };
+    ghost invariant = { λ d. IsDepot d.magazine d.room d.lengths.items d.blocks.items (vec_capacity d.lengths)
+        (vec_capacity d.blocks) };
 }
 
 impl Depot {
     /// An empty depot with room for so many lists of m blocks.
     ///
-    /// Blocks are copied from stack to depot and back, so no CPU has to bring an empty magazine, and the number of CPUs takes no memory.
+    /// Blocks are copied from stack to depot and back, so no CPU has to bring an empty magazine, and the number of CPUs
+    /// takes no memory.
     pub fn new(alloc: Global, m: u32, lists: u32, _cpus: u32) -> Result<Depot, AllocError>
         requires some { 0 < m }
         requires fit { m ≤ 32 }
@@ -55,7 +62,8 @@ impl Depot {
         requires full { length from.old.blocks ≡ 2 * from.old.magazine }
         requires same_magazine { from.old.magazine ≡ self.old.magazine }
         ensures room { result ≡ nat_lt (length self.old.lists) self.old.room }
-        ensures put { result ≡ true → self.new ≡ record self.old { lists = self.old.lists ++ take self.old.magazine from.old.blocks ∷ [] } }
+        ensures put { result ≡ true → self.new
+            ≡ record self.old { lists = self.old.lists ++ take self.old.magazine from.old.blocks ∷ [] } }
         ensures left { result ≡ true → from.new ≡ record from.old { blocks = drop self.old.magazine from.old.blocks } }
         ensures unchanged { result ≡ false → (self.new ≡ self.old) × (from.new ≡ from.old) }
     {

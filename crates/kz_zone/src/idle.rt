@@ -1,6 +1,6 @@
 //! Blocks that become idle.
 ghost use Rattle.std.specs.Prelude.{◌≡◌, []};
-ghost use Rattle.kz_model.specs.Rules.{all_idle};
+ghost use Rattle.kz_model.specs.Zone.Rules.{all_idle};
 ghost use Rattle.kz_zone.specs.Depot.{row_of};
 ghost use Rattle.kz_zone.specs.Out.{AreOut};
 

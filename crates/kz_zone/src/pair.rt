@@ -1,6 +1,6 @@
 //! A CPU's stack of blocks, as one list.
 ghost use Rattle.std.specs.Prelude.{◌≡◌, ◌+◌, ◌*◌, ◌<◌, ◌≤◌, ◌++◌, [], ◌∷◌, ◌↔◌, length, vec_len, vec_capacity, take, drop, IfOk, IfErr, IfSome, IsErr, IsSome, OnOk, OnErr};
-ghost use Rattle.kz_model.specs.Rules.{newest, below_newest};
+ghost use Rattle.kz_model.specs.Zone.Rules.{newest, below_newest};
 
 use crate::within::{drop_front, extend_within, push_within};
 use kz_model::Block;
@@ -24,7 +24,8 @@ impl Model for Pair {
 
     ghost view = { λ p. record { magazine = p.magazine; blocks = p.blocks.items } };
 
-    ghost invariant = { λ p. (0 < p.magazine) × (p.magazine ≤ 32) × (vec_len p.blocks ≤ 2 * p.magazine) × (2 * p.magazine ≤ vec_capacity p.blocks) };
+    ghost invariant = { λ p. (0 < p.magazine) × (p.magazine ≤ 32) × (vec_len p.blocks ≤ 2 * p.magazine) ×
+        (2 * p.magazine ≤ vec_capacity p.blocks) };
 }
 
 impl Pair {

@@ -2,7 +2,7 @@
 ghost use Rattle.std.specs.Prelude.{◌≡◌, ◌↔◌, ◌+◌, ◌<◌, ◌≤◌, ◌++◌, [], ◌∷◌, length, vec_capacity, is_some, IsFalse, IfOk, IfSome, IfNone};
 ghost use Rattle.std.specs.List.{remove};
 ghost use Rattle.std.specs.Option.{unwrap_or};
-ghost use Rattle.kz_model.specs.Rules.{gift_place, gift_at};
+ghost use Rattle.kz_model.specs.Zone.Rules.{gift_place, gift_at};
 
 use crate::within::push_within;
 use kz_model::Block;
@@ -19,7 +19,7 @@ pub struct Gift {
 }
 
 impl Model for Gift {
-    ghost use Rattle.kz_model.specs.Zone.{Gift as Seen};
+    ghost use Rattle.kz_model.specs.Zone.State.{Gift as Seen};
 
     ghost Value = { Seen };
 
@@ -149,8 +149,10 @@ impl Slots {
     /// Takes the oldest gift for a CPU and one of its names.
     pub fn take(&mut self, to: u32, name: u32) -> Option<Block>
         ensures some { is_some result ≡ is_some (gift_place to name self.old.gifts) }
-        ensures block { IfSome result (λ block. block ≡ (gift_at self.old.gifts (unwrap_or (gift_place to name self.old.gifts) 0)).block) }
-        ensures left { IfSome result (λ block. self.new ≡ record self.old { gifts = remove self.old.gifts (unwrap_or (gift_place to name self.old.gifts) 0) }) }
+        ensures block { IfSome result (λ block. block
+            ≡ (gift_at self.old.gifts (unwrap_or (gift_place to name self.old.gifts) 0)).block) }
+        ensures left { IfSome result (λ block. self.new
+            ≡ record self.old { gifts = remove self.old.gifts (unwrap_or (gift_place to name self.old.gifts) 0) }) }
         ensures none { IfNone result (self.new ≡ self.old) }
     {
         let ends = self.index.get_mut(&(to, name))?;

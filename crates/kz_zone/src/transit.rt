@@ -2,7 +2,7 @@
 ghost use Rattle.std.specs.Prelude.{◌≡◌, ◌<◌, ◌≤◌, ◌++◌, [], ◌∷◌, length, vec_capacity, is_some, IfOk, IfSome, IfNone};
 ghost use Rattle.std.specs.List.{remove};
 ghost use Rattle.std.specs.Option.{unwrap_or};
-ghost use Rattle.kz_model.specs.Rules.{gift_place, gift_at};
+ghost use Rattle.kz_model.specs.Zone.Rules.{gift_place, gift_at};
 
 use crate::slots::{Gift, Slots};
 use kz_model::Block;
@@ -43,7 +43,10 @@ impl Transit {
     /// Puts a gift last.
     pub fn give(&mut self, to: u32, name: u32, block: Block)
         requires { length self.old.gifts < self.old.room }
-        ensures { self.new ≡ record self.old { gifts = self.old.gifts ++ record { to = to; name = name; block = block } ∷ [] } }
+        ensures { self.new ≡ record self.old {
+          gifts = self.old.gifts ++ record { to = to; name = name; block = block }
+              ∷ [];
+        } }
     {
         if self.slots.is_full() {
             compact(&mut self.slots, &mut self.spare);
@@ -54,8 +57,10 @@ impl Transit {
     /// Takes the oldest gift for a CPU and one of its names out.
     pub fn take(&mut self, to: u32, name: u32) -> Option<Block>
         ensures some { is_some result ≡ is_some (gift_place to name self.old.gifts) }
-        ensures block { IfSome result (λ block. block ≡ (gift_at self.old.gifts (unwrap_or (gift_place to name self.old.gifts) 0)).block) }
-        ensures left { IfSome result (λ block. self.new ≡ record self.old { gifts = remove self.old.gifts (unwrap_or (gift_place to name self.old.gifts) 0) }) }
+        ensures block { IfSome result (λ block. block
+            ≡ (gift_at self.old.gifts (unwrap_or (gift_place to name self.old.gifts) 0)).block) }
+        ensures left { IfSome result (λ block. self.new
+            ≡ record self.old { gifts = remove self.old.gifts (unwrap_or (gift_place to name self.old.gifts) 0) }) }
         ensures none { IfNone result (self.new ≡ self.old) }
     {
         self.slots.take(to, name)

@@ -2,13 +2,14 @@
 ghost use Rattle.std.specs.Prelude.{◌≡◌, ◌+◌, ◌*◌, ◌<◌, ◌≤◌, ◌++◌, [], ◌∷◌, true, false, length, take, drop, map, replicate, Some, is_some, slice_index, IfOk, OnOk, OnErr, IfSome, IfNone};
 ghost use Rattle.std.specs.List.{remove};
 ghost use Rattle.std.specs.Option.{unwrap_or};
-ghost use Rattle.kz_model.specs.Words.{opened};
-ghost use Rattle.kz_model.specs.Zone.{Shared, Gift, chunk_at, nothing_own};
-ghost use Rattle.kz_model.specs.Rules.{ready, spilled, all_idle, trimmed, before_unmapping, count_whole, gift_place, gift_at, with_bytes, bytes_at};
-ghost use Rattle.kz_model.specs.Whole.{AreAway};
-ghost use Rattle.kz_zone.specs.Zone.{Shows, IsSame, IsSettled, IsBlock, IsKept, shared_of, place_of, want_of};
-ghost use Rattle.kz_zone.specs.Growth.{CanAnswer, HasPlace, Grows, trim_exchanges};
-ghost use Rattle.kz_zone.specs.Room.{IsFit};
+ghost use Rattle.kz_model.specs.Zone.Words.{opened};
+ghost use Rattle.kz_model.specs.Zone.State.{Shared, Gift, chunk_at, no_cpu_part};
+ghost use Rattle.kz_model.specs.Zone.Rules.{ready, after_spill, all_idle, trimmed, before_unmapping, count_whole, gift_place, gift_at, with_bytes, bytes_at};
+ghost use Rattle.kz_model.specs.Zone.Whole.{AreAway};
+ghost use Rattle.kz_zone.specs.Zone.{StandsFor, IsSame, IsSettled, IsBlock, IsSoundZone, shared_of, place_of, want_of};
+ghost use Rattle.kz_supply.specs.Pages.{IsUsed};
+ghost use Rattle.kz_zone.specs.Growth.{CanServe, HasAsked, chunks_of, growth_asks, trim_exchanges};
+ghost use Rattle.kz_zone.specs.Room.{IsFitRoom};
 ghost use Rattle.std.specs.List.{count_by};
 
 use crate::chunks::Chunks;
@@ -41,7 +42,18 @@ impl Model for Zone {
 
     ghost Value = { Seen };
 
-    ghost view = { λ z. record { params = z.chunks.params; most_chunks = z.chunks.most; most_gifts = z.transit.room; chunks = z.chunks.chunks; bases = z.chunks.bases; depot = z.depot.lists; transit = z.transit.gifts; words = z.words } };
+    ghost view = { λ z. record {
+      params = z.chunks.params;
+      most_chunks = z.chunks.most;
+      most_gifts =
+          z.transit.room;
+      chunks = z.chunks.chunks;
+      bases = z.chunks.bases;
+      depot = z.depot.lists;
+      transit =
+          z.transit.gifts;
+      words = z.words;
+    } };
 
     ghost invariant = { λ z. IsDepotOf z.chunks.params z.depot };
 }
@@ -49,7 +61,7 @@ impl Model for Zone {
 impl Zone {
     /// A zone with no chunk and an empty depot, whose picks draw from the zone's own stream of the seed.
     pub fn new(alloc: Global, room: &Room) -> Result<Zone, AllocError>
-        requires { IsFit room.now }
+        requires { IsFitRoom room.now }
         ensures { IfOk result (λ zone. zone ≡ record {
           params = room.now.params;
           most_chunks = room.now.chunks;
@@ -70,26 +82,25 @@ impl Zone {
         })
     }
 
-    /// Fills an empty stack: with the list last put into the depot, else by picks, for which the zone grows where no element is idle.
+    /// Fills an empty stack: with the list last put into the depot, else by picks, for which the zone grows where no
+    /// element is idle.
     pub fn refill<P: Pages>(&mut self, into: &mut Pair, pages: &mut P) -> Result<(), Denied>
         requires empty { into.old.blocks ≡ [] }
         requires same_magazine { into.old.magazine ≡ self.old.params.magazine }
-        requires same_zone { P.params pages.old ≡ self.old.params }
-        requires answers { CanAnswer (want_of self.old) (P.can_chunk pages.old) (P.can_frames pages.old) }
-        requires few { HasPlace (want_of self.old) (P.grants pages.old) (length self.old.chunks) self.old.most_chunks }
+        requires serves { CanServe (P.seen pages.old) (chunks_of self.old) (want_of self.old) 0 }
 
         // What the stack gets, and what is left.
-        ensures shows { OnOk result ((s : Shared) → Shows self.old s → Shows self.new (ready self.old.params s []).1) }
-        ensures stack { OnOk result ((s : Shared) → Shows self.old s → into.new ≡ record into.old { blocks = (ready self.old.params s []).0 }) }
+        ensures shows { OnOk result ((s : Shared) → StandsFor self.old s →
+            StandsFor self.new (ready self.old.params s []).1) }
+        ensures stack { OnOk result ((s : Shared) → StandsFor self.old s → into.new
+            ≡ record into.old { blocks = (ready self.old.params s []).0 }) }
         ensures some { OnOk result (0 < length into.new.blocks) }
         ensures unchanged { OnErr result ((self.new ≡ self.old) × (into.new ≡ into.old)) }
         ensures same { IsSame self.old self.new }
 
         // What was asked.
-        ensures asked { Grows self.old self.new result (P.exchanges pages.old) (P.exchanges pages.new) }
-        ensures grants { P.grants pages.new + length self.new.chunks ≡ P.grants pages.old + length self.old.chunks }
-        ensures params { P.params pages.new ≡ P.params pages.old }
-        ensures base { P.base pages.new ≡ P.base pages.old }
+        ensures asked { HasAsked (growth_asks self.old.params (shared_of self.old)) (chunks_of self.old)
+            (chunks_of self.new) result (P.seen pages.old) (P.seen pages.new) }
     {
         self.chunks.keeps();
         if self.depot.get(into) {
@@ -102,12 +113,14 @@ impl Zone {
         Ok(())
     }
 
-    /// Takes the oldest blocks of a full stack, a magazine's size of them: into the depot where it has room, else they become idle.
+    /// Takes the oldest blocks of a full stack, a magazine's size of them: into the depot where it has room, else they
+    /// become idle.
     pub fn spill(&mut self, from: &mut Pair)
         requires full { length from.old.blocks ≡ 2 * from.old.magazine }
         requires same_magazine { from.old.magazine ≡ self.old.params.magazine }
         requires away { AreAway self.old.params (shared_of self.old) from.old.blocks }
-        ensures shows { (s : Shared) → Shows self.old s → Shows self.new (spilled self.old.params (take from.old.magazine from.old.blocks) s) }
+        ensures shows { (s : Shared) → StandsFor self.old s →
+            StandsFor self.new (after_spill self.old.params (take from.old.magazine from.old.blocks) s) }
         ensures left { from.new ≡ record from.old { blocks = drop from.old.magazine from.old.blocks } }
         ensures same { IsSettled self.old self.new }
     {
@@ -135,25 +148,27 @@ impl Zone {
     pub fn flush(&mut self, from: &mut Pair)
         requires same_magazine { from.old.magazine ≡ self.old.params.magazine }
         requires away { AreAway self.old.params (shared_of self.old) from.old.blocks }
-        ensures shows { (s : Shared) → Shows self.old s → Shows self.new (record s { chunks = all_idle from.old.blocks s.chunks }) }
+        ensures shows { (s : Shared) → StandsFor self.old s →
+            StandsFor self.new (record s { chunks = all_idle from.old.blocks s.chunks }) }
         ensures left { from.new ≡ record from.old { blocks = [] } }
         ensures same { IsSettled self.old self.new }
     {
         empty_stack(&mut self.chunks, from);
     }
 
-    /// Makes the depot's blocks idle, and unmaps each chunk that is then wholly idle. It gives the number of pages that went back.
+    /// Makes the depot's blocks idle, and unmaps each chunk that is then wholly idle. It gives the number of pages that
+    /// went back.
     pub fn trim<P: Pages>(&mut self, pages: &mut P) -> u32
-        requires same_zone { P.params pages.old ≡ self.old.params }
-        requires room { count_by (λ chunk. chunk.mapped) self.old.chunks ≤ P.backs pages.old }
+        requires serves { CanServe (P.seen pages.old) (chunks_of self.old) Want.Nothing
+            (count_by (λ chunk. chunk.mapped) self.old.chunks) }
         requires away { AreAway self.old.params (shared_of self.old) [] }
-        ensures pages { result ≡ self.old.params.pages * count_whole self.old.params (before_unmapping (shared_of self.old)) }
-        ensures shows { (s : Shared) → Shows self.old s → Shows self.new (trimmed self.old.params s nothing_own).shared }
+        ensures pages { result ≡ self.old.params.pages * count_whole self.old.params
+            (before_unmapping (shared_of self.old)) }
+        ensures shows { (s : Shared) → StandsFor self.old s →
+            StandsFor self.new (trimmed self.old.params s no_cpu_part).shared }
         ensures same { IsSettled self.old self.new }
-        ensures asked { P.exchanges pages.new ≡ P.exchanges pages.old ++ trim_exchanges self.old.params (shared_of self.old) }
-        ensures grants { P.grants pages.new ≡ P.grants pages.old }
-        ensures params { P.params pages.new ≡ P.params pages.old }
-        ensures base { P.base pages.new ≡ P.base pages.old }
+        ensures used { IsUsed (P.seen pages.old) (P.seen pages.new)
+            (trim_exchanges self.old.params (shared_of self.old)) 0 0 }
     {
         empty_depot(&mut self.chunks, &mut self.depot);
         self.chunks.keeps();
@@ -164,7 +179,11 @@ impl Zone {
     /// Puts a gift for a CPU and one of its names last into transit.
     pub fn give(&mut self, to: u32, name: u32, block: Block)
         requires { length self.old.transit < self.old.most_gifts }
-        ensures shows { (s : Shared) → Shows self.old s → Shows self.new (record s { transit = s.transit ++ record { to = to; name = name; block = block } ∷ [] }) }
+        ensures shows { (s : Shared) → StandsFor self.old s →
+            StandsFor self.new (record s {
+              transit = s.transit ++ record { to = to; name = name; block = block }
+                  ∷ [];
+            }) }
         ensures same { IsSettled self.old self.new }
     {
         self.transit.give(to, name, block);
@@ -173,8 +192,10 @@ impl Zone {
     /// Takes the oldest gift for a CPU and one of its names out of transit.
     pub fn take(&mut self, to: u32, name: u32) -> Option<Block>
         ensures some { is_some result ≡ is_some (gift_place to name self.old.transit) }
-        ensures block { IfSome result (λ block. block ≡ (gift_at self.old.transit (unwrap_or (gift_place to name self.old.transit) 0)).block) }
-        ensures shows { IfSome result (λ block. (s : Shared) → Shows self.old s → Shows self.new (record s { transit = remove s.transit (unwrap_or (gift_place to name s.transit) 0) })) }
+        ensures block { IfSome result (λ block. block
+            ≡ (gift_at self.old.transit (unwrap_or (gift_place to name self.old.transit) 0)).block) }
+        ensures shows { IfSome result (λ block. (s : Shared) → StandsFor self.old s →
+            StandsFor self.new (record s { transit = remove s.transit (unwrap_or (gift_place to name s.transit) 0) })) }
         ensures none { IfNone result (self.new ≡ self.old) }
         ensures same { IsSettled self.old self.new }
     {
@@ -197,7 +218,8 @@ impl Zone {
         requires there { IsBlock self.old block }
         requires inside { off + length bytes.now ≤ self.old.params.element }
         ensures mapped { result ≡ (chunk_at self.old.chunks block.chunk).mapped }
-        ensures shows { result ≡ true → (s : Shared) → Shows self.old s → Shows self.new (with_bytes self.old.params block off bytes.now s) }
+        ensures shows { result ≡ true → (s : Shared) → StandsFor self.old s →
+            StandsFor self.new (with_bytes self.old.params block off bytes.now s) }
         ensures unchanged { result ≡ false → self.new ≡ self.old }
         ensures same { IsSettled self.old self.new }
     {
@@ -208,7 +230,8 @@ impl Zone {
     pub fn zero(&mut self, block: Block)
         requires there { IsBlock self.old block }
         requires mapped { (chunk_at self.old.chunks block.chunk).mapped ≡ true }
-        ensures shows { (s : Shared) → Shows self.old s → Shows self.new (with_bytes self.old.params block 0 (replicate self.old.params.element 0) s) }
+        ensures shows { (s : Shared) → StandsFor self.old s →
+            StandsFor self.new (with_bytes self.old.params block 0 (replicate self.old.params.element 0) s) }
         ensures same { IsSettled self.old self.new }
     {
         self.chunks.zero(block);
@@ -217,7 +240,7 @@ impl Zone {
     /// How many chunks the zone has.
     pub fn chunks(&self) -> u32
         ensures chunks { result ≡ length self.now.chunks }
-        ensures kept { IsKept self.now }
+        ensures kept { IsSoundZone self.now }
     {
         self.chunks.keeps();
         self.transit.keeps();

@@ -1,7 +1,7 @@
 use Rattle.std.proofs.Common.{◌≡◌, None, ap, sym, ◌∙◌, subst}
 use Rattle.std.specs.Option.{option_map}
 use Rattle.kz_model.specs.declared.step.Step.{Step}
-use Rattle.kz_model.specs.Rules.{refused_here}
+use Rattle.kz_model.specs.Zone.Rules.{refused_here}
 use Rattle.kz_zone.specs.Pair.{Pair}
 use Rattle.kz_cpu.specs.OwnReply.{reply_meant}
 use Rattle.kz_cpu.specs.Local.{Brings, IsAnswer, bound_by}

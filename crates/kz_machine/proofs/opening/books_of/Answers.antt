@@ -1,7 +1,7 @@
 use Rattle.std.proofs.Common.{◌≡◌, ◌<◌, length, ◌∙◌, subst, arith}
 use Rattle.std.proofs.lemmas.List.{get_or_default}
 use Rattle.kz_model.specs.declared.record.Room.{Room}
-use Rattle.kz_machine.specs.Looks.{no_room, room_at}
+use Rattle.kz_machine.specs.Lookups.{no_room, room_at}
 use Rattle.kz_machine.specs.Opening.{IsOpened}
 use Rattle.kz_machine.proofs.Opened.{opened_more}
 use Rattle.kz_machine.proofs.opening.books_of.Goals as goal

@@ -2,7 +2,7 @@ use Rattle.std.proofs.Common.{◌≡◌, ◌<◌, ◌*◌, ℕ, length, take, ap
 use Rattle.std.proofs.lemmas.List.{get_or_default}
 use Rattle.std.proofs.lemmas.List.Sums.{sum-map, sum_by_more_le}
 use Rattle.kz_model.specs.declared.record.Room.{Room}
-use Rattle.kz_machine.specs.Looks.{no_room, room_at}
+use Rattle.kz_machine.specs.Lookups.{no_room, room_at}
 use Rattle.kz_machine.proofs.opening.frames_of.Goals as goal
 
 abbrev frames_of_one : Room → ℕ

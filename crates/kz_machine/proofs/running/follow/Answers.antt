@@ -1,6 +1,6 @@
 use Rattle.std.proofs.Common.{◌+◌, ◌∷◌, drop}
 use Rattle.kz_model.specs.declared.bundle.OrderLine.TheVariants.{Cpu, Round}
-use Rattle.kz_model.specs.Play.{lines_played}
+use Rattle.kz_laws.specs.Play.{play_after_lines}
 use Rattle.kz_machine.proofs.Played.{next_left, may_end, round_done}
 use Rattle.kz_machine.proofs.running.follow.Goals as goal
 use Rattle.kz_machine.proofs.running.follow.Goals.{in-Cpu, in-Round}
@@ -16,7 +16,7 @@ end_round-requires c =
     let plan = c.args.plan.now in
     let i = c.loop-line.line-index in
     let left = next_left b plan c.loop-line.machine c.args.lines.now i Round c.loop-line-test.true c.in-Round.is c.loop-line.invariant in
-    (b, plan, lines_played b plan left.lines, left.at, may_end b plan c.loop-line.machine (Round ∷ drop (i + 1) c.args.lines.now) left)
+    (b, plan, play_after_lines b plan left.lines, left.at, may_end b plan c.loop-line.machine (Round ∷ drop (i + 1) c.args.lines.now) left)
 
 pub loop-line-preserved : goal.loop-line-preserved
 loop-line-preserved c =
@@ -32,6 +32,6 @@ loop-line-preserved c =
           rw w.machine-is done
       | in-Round w ↦
           let left = next_left b plan m lines i Round c.loop-line-test.true w.in-Round.is c.loop-line.invariant in
-          let done = round_done b plan m w.end_round.new.self rest left (w.end_round.ensures b plan (lines_played b plan left.lines) left.at (may_end b plan m (Round ∷ rest) left)) in
+          let done = round_done b plan m w.end_round.new.self rest left (w.end_round.ensures b plan (play_after_lines b plan left.lines) left.at (may_end b plan m (Round ∷ rest) left)) in
           rw w.machine-is done
     ]

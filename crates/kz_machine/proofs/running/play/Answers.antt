@@ -1,9 +1,9 @@
 use Rattle.std.proofs.Common.{◌<◌, ℕ, length, slice_index_or, ap, sym, ◌∙◌, subst, arith}
 use Rattle.kz_model.specs.declared.step.Step.{Step}
-use Rattle.kz_model.specs.Journal.{addressed, trace_of}
-use Rattle.kz_model.specs.Play.{played}
-use Rattle.kz_model.specs.Traces.{no_step}
-use Rattle.kz_machine.specs.Stands.{IsAt}
+use Rattle.kz_model.specs.Run.Journal.{addressed, trace_of}
+use Rattle.kz_laws.specs.Play.{play_after_step}
+use Rattle.kz_model.specs.Run.Journal.{no_step}
+use Rattle.kz_machine.specs.Stands.{StandsForPlay}
 use Rattle.kz_machine.proofs.Lines.{trace_few}
 use Rattle.kz_machine.proofs.Played.{left_within, left_turn, turn_is, place_is, line_done, now_played}
 use Rattle.kz_machine.proofs.running.play.Goals as goal
@@ -47,4 +47,4 @@ returns c rest left =
     let line = ap (λ n. addressed b plan (slice_index_or (trace_of b c.args.cpu) n no_step).act) (sym place) ∙ sym c.addressed-zone.ensures in
     let turn = turn_is b plan m c.args.cpu rest left c.addressed-zone.result.0 c.addressed-zone.result.1 line in
     line_done b plan m c.args.cpu rest left c.step.new.self
-    (subst (λ (line : ℕ × Step). IsAt b plan c.step.new.self (played b plan s c.args.cpu line.0 line.1)) (sym line) (c.step.ensures.plays b plan s left.at turn))
+    (subst (λ (line : ℕ × Step). StandsForPlay b plan c.step.new.self (play_after_step b plan s c.args.cpu line.0 line.1)) (sym line) (c.step.ensures.plays b plan s left.at turn))

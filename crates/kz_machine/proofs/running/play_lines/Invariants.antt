@@ -1,7 +1,7 @@
 use Rattle.std.proofs.Common.{ℕ, ◌-◌, List, ◌++◌, length, replicate}
 use Rattle.kz_model.specs.declared.bundle.OrderLine.{OrderLine}
 use Rattle.kz_model.specs.declared.bundle.OrderLine.TheVariants.{Cpu}
-use Rattle.kz_model.specs.Journal.{trace_of}
+use Rattle.kz_model.specs.Run.Journal.{trace_of}
 use Rattle.kz_machine.specs.Left.{IsLeft, IsRest}
 use Rattle.kz_machine.specs.Machine.{replies_at}
 use Rattle.kz_machine.proofs.running.play_lines.Given as goal

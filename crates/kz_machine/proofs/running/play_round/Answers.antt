@@ -1,6 +1,6 @@
 use Rattle.std.proofs.Common.{◌+◌, ◌++◌, List, length, subst}
 use Rattle.kz_model.specs.declared.bundle.OrderLine.{OrderLine}
-use Rattle.kz_model.specs.Journal.{lines_of_round}
+use Rattle.kz_model.specs.Run.Journal.{lines_of_round}
 use Rattle.kz_machine.specs.Left.{IsLeft, turns_from, rounds_after}
 use Rattle.kz_machine.proofs.Default.{rest_of_turns, turns_parted}
 use Rattle.kz_machine.proofs.running.play_round.Goals as goal

@@ -1,8 +1,8 @@
 use Rattle.std.proofs.Common.{◌-◌, List, ◌∷◌, subst, arith}
 use Rattle.kz_model.specs.declared.bundle.OrderLine.{OrderLine}
 use Rattle.kz_model.specs.declared.bundle.OrderLine.TheVariants.{Round}
-use Rattle.kz_model.specs.Order.{default_rounds}
-use Rattle.kz_model.specs.Play.{lines_played}
+use Rattle.kz_model.specs.Run.Order.{default_rounds}
+use Rattle.kz_laws.specs.Play.{play_after_lines}
 use Rattle.kz_machine.specs.Left.{IsLeft}
 use Rattle.kz_machine.proofs.Default.{round_parted, order_parted, round_next}
 use Rattle.kz_machine.proofs.Played.{may_end, round_done}
@@ -20,7 +20,7 @@ end_round-requires c =
     let plan = c.args.plan.now in
     let round = c.loop-round.round in
     let left = subst (λ (l : List OrderLine). IsLeft b plan c.loop-round.machine l) (round_next b round c.loop-round-test.true) c.loop-round.invariant in
-    (b, plan, lines_played b plan left.lines, left.at, may_end b plan c.loop-round.machine (Round ∷ default_rounds b round (b.rounds - round)) left)
+    (b, plan, play_after_lines b plan left.lines, left.at, may_end b plan c.loop-round.machine (Round ∷ default_rounds b round (b.rounds - round)) left)
 
 pub play_round-requires-in-loop-round-clause-left : goal.play_round-requires-in-loop-round-clause-left
 play_round-requires-in-loop-round-clause-left c =
@@ -29,5 +29,5 @@ play_round-requires-in-loop-round-clause-left c =
     let round = c.loop-round.round in
     let rest = default_rounds b round (b.rounds - round) in
     let left = subst (λ (l : List OrderLine). IsLeft b plan c.loop-round.machine l) (round_next b round c.loop-round-test.true) c.loop-round.invariant in
-    let done = round_done b plan c.loop-round.machine c.end_round.new.self rest left (c.end_round.ensures b plan (lines_played b plan left.lines) left.at (may_end b plan c.loop-round.machine (Round ∷ rest) left)) in
+    let done = round_done b plan c.loop-round.machine c.end_round.new.self rest left (c.end_round.ensures b plan (play_after_lines b plan left.lines) left.at (may_end b plan c.loop-round.machine (Round ∷ rest) left)) in
     subst (λ (l : List OrderLine). IsLeft b plan c.end_round.new.self l) (round_parted b round c.loop-round-test.true) done

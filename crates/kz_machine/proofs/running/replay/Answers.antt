@@ -1,9 +1,9 @@
 use Rattle.std.proofs.Common.{[], refl, sym, subst}
 use Rattle.kz_model.specs.declared.record.Record.{Record}
-use Rattle.kz_model.specs.Play.{play_run}
-use Rattle.kz_model.specs.Recorded.{IsOfOrder}
-use Rattle.kz_model.proofs.PlayedRuns.{ordered_runs_are_played}
-use Rattle.kz_model.proofs.Prefixes.{runs_end_sound}
+use Rattle.kz_laws.specs.Play.{play_run}
+use Rattle.kz_model.specs.Run.Recorded.{IsOfOrder}
+use Rattle.kz_laws.proofs.PlayedRuns.{ordered_runs_are_played}
+use Rattle.kz_laws.proofs.Prefixes.{runs_end_sound}
 use Rattle.kz_machine.proofs.Apart.{record_is_isolated}
 use Rattle.kz_machine.proofs.Fit.{has_elements}
 use Rattle.kz_machine.proofs.Played.{now_played, may_end, run_done}

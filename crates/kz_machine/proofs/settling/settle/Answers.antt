@@ -1,5 +1,5 @@
 use Rattle.std.proofs.Common.{◌<◌, length, subst, sym, arith}
-use Rattle.kz_model.specs.Play.{zone_play}
+use Rattle.kz_laws.specs.Play.{zone_play}
 use Rattle.kz_machine.specs.Settling.{AreSettledBelow}
 use Rattle.kz_machine.proofs.Settled.{book_begins, zone_ends}
 use Rattle.kz_machine.proofs.settling.settle.Goals as goal

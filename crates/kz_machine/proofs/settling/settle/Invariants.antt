@@ -1,8 +1,8 @@
 use Rattle.std.proofs.Common.{◌≡◌}
 use Rattle.kz_model.specs.declared.bundle.Bundle.{Bundle}
 use Rattle.kz_model.specs.declared.record.Plan.{Plan}
-use Rattle.kz_model.specs.Play.{Play}
-use Rattle.kz_model.specs.PlayedAt.{IsPlaySound}
+use Rattle.kz_laws.specs.Play.{Play}
+use Rattle.kz_laws.specs.PlayedAt.{IsPlaySound}
 use Rattle.kz_machine.specs.Settling.{AreSettled}
 use Rattle.kz_machine.proofs.settling.settle.Given as goal
 

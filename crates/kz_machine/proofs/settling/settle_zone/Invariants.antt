@@ -2,7 +2,7 @@ use Rattle.std.proofs.Common.{List}
 use Rattle.kz_model.specs.declared.bundle.Bundle.{Bundle}
 use Rattle.kz_model.specs.declared.record.Plan.{Plan}
 use Rattle.kz_model.specs.declared.supply.SupplyEntry.{SupplyEntry}
-use Rattle.kz_model.specs.Play.{ZonePlay}
+use Rattle.kz_laws.specs.Play.{ZonePlay}
 use Rattle.kz_machine.specs.Settling.{AreSettledBelow}
 use Rattle.kz_machine.proofs.settling.settle_zone.Given as goal
 

@@ -1,5 +1,5 @@
 use Rattle.std.proofs.Common.{◌≡◌, length}
-use Rattle.kz_model.specs.Rules.{all_idle}
+use Rattle.kz_model.specs.Zone.Rules.{all_idle}
 use Rattle.kz_zone.specs.Out.{AreOut}
 use Rattle.kz_zone.proofs.idle.empty_stack.Given as goal
 

@@ -1,9 +1,11 @@
-use Rattle.std.proofs.Common.{◌≡◌, ℕ, ◌+◌, ◌++◌, ◌∷◌, [], List, replicate, ap, sym, ◌∙◌, arith, append_assoc}
+use Rattle.std.proofs.Common.{◌≡◌, ℕ, ◌+◌, ◌++◌, ◌∷◌, [], List, replicate, ap, sym, subst, ◌∙◌, arith}
 use Rattle.std.proofs.lemmas.List.{replicate_more}
 use Rattle.kz_model.specs.declared.supply.Ask.TheVariants.{Back}
 use Rattle.kz_model.specs.declared.supply.Answer.TheVariants.{Taken}
 use Rattle.kz_model.specs.declared.record.ZoneParams.{ZoneParams}
 use Rattle.kz_supply.specs.Exchange.{Exchange}
+use Rattle.kz_supply.specs.Pages.{SupplyView, IsUsed}
+use Rattle.kz_supply.proofs.Views.{used_on}
 use Rattle.kz_zone.proofs.Unmapped.{whole_at, one_less, none_whole, no_more}
 use Rattle.kz_zone.proofs.trim.unmap_whole.Goals as goal
 
@@ -21,10 +23,10 @@ loop-ordinal-smaller g c =
     omega (arith, less.count)
 
 -- one more frame went back
-one_back : (before now after : List Exchange) (n zone pages : ℕ) → after ≡ now ++ (Back zone, Taken) ∷ [] → zone ≡ pages → now ≡ before ++ replicate n (Back pages, Taken) → after ≡ before ++ replicate (n + 1) (Back pages, Taken)
-one_back before now after n zone pages made same so_far =
+one_back : {Base : Type 0} (first mid last : SupplyView Base) (n pages : ℕ) → mid.params.pages ≡ pages → IsUsed first mid (replicate n (Back pages, Taken)) 0 0 → IsUsed mid last ((Back mid.params.pages, Taken) ∷ []) 0 0 → IsUsed first last (replicate (n + 1) (Back pages, Taken)) 0 0
+one_back first mid last n pages same before now =
     let back : ℕ → Exchange = λ m. (Back m, Taken) in
-    made ∙ (λ i. so_far i ++ back (same i) ∷ []) ∙ append_assoc before (replicate n (back pages)) (back pages ∷ []) ∙ ap (λ xs. before ++ xs) (replicate_more n (back pages))
+    subst (λ (l : List Exchange). IsUsed first last l 0 0) (ap (λ m. replicate n (back pages) ++ back m ∷ []) same ∙ replicate_more n (back pages)) (used_on first mid last _ _ 0 0 0 before now)
 
 pub loop-ordinal-preserved : goal.loop-ordinal-preserved
 loop-ordinal-preserved g c =
@@ -37,12 +39,10 @@ loop-ordinal-preserved g c =
       count = omega (arith, less.count, h.count);
       few = h.few;
       same = less.same ∙ h.same;
-      same_zone = c.back.ensures.params ∙ h.same_zone ∙ less.zone;
+      same_zone = c.back.ensures.used.params ∙ h.same_zone ∙ less.zone;
       zone = less.params ∙ h.zone;
       room = omega (arith, less.count, h.room, c.back.ensures.room);
-      asked = one_back (pages.exchanges c.args.pages.now) (pages.exchanges l.pages) (pages.exchanges c.back.new.self) l.unmapped (pages.params l.pages).pages c.args.chunks.now.params.pages c.back.ensures.asked (ap (λ (p : ZoneParams). p.pages) (h.same_zone ∙ h.zone)) h.asked;
-      grants = c.back.ensures.granted ∙ h.grants;
-      base = c.back.ensures.base ∙ h.base;
+      used = one_back (pages.seen c.args.pages.now) (pages.seen l.pages) (pages.seen c.back.new.self) l.unmapped c.args.chunks.now.params.pages (ap (λ (p : ZoneParams). p.pages) (h.same_zone ∙ h.zone)) h.used c.back.ensures.used;
     }
 
 pub returns-clause-count : goal.returns-clause-count
@@ -51,7 +51,8 @@ returns-clause-count g c = omega (arith, no_more c.loop-ordinal.chunks (sym c.in
 pub returns-clause-chunks : goal.returns-clause-chunks
 returns-clause-chunks g c = sym (none_whole c.loop-ordinal.chunks (sym c.in_default.ensures)) ∙ c.loop-ordinal.invariant.same
 
-pub returns-clause-asked : goal.returns-clause-asked
-returns-clause-asked g c =
+pub returns-clause-used : goal.returns-clause-used
+returns-clause-used g c =
+    let pages = g.P.Pages in
     let back : Exchange = (Back c.args.chunks.now.params.pages, Taken) in
-    c.loop-ordinal.invariant.asked ∙ ap (λ n. g.P.Pages.exchanges c.args.pages.now ++ replicate n back) (returns-clause-count g c)
+    subst (λ n. IsUsed (pages.seen c.args.pages.now) (pages.seen c.loop-ordinal.pages) (replicate n back) 0 0) (returns-clause-count g c) c.loop-ordinal.invariant.used

@@ -1,7 +1,8 @@
-use Rattle.std.proofs.Common.{◌≡◌, ◌+◌, ◌≤◌, ◌++◌, replicate}
+use Rattle.std.proofs.Common.{◌≡◌, ◌+◌, ◌≤◌, replicate}
 use Rattle.kz_model.specs.declared.supply.Ask.TheVariants.{Back}
 use Rattle.kz_model.specs.declared.supply.Answer.TheVariants.{Taken}
-use Rattle.kz_model.specs.Rules.{count_whole}
+use Rattle.kz_model.specs.Zone.Rules.{count_whole}
+use Rattle.kz_supply.specs.Pages.{IsUsed}
 use Rattle.kz_zone.specs.Unmapping.{unmapped_chunks}
 use Rattle.kz_zone.proofs.trim.unmap_whole.Given as goal
 
@@ -13,12 +14,10 @@ invariant-loop-ordinal g l =
       count : l.unmapped + count_whole l.chunks.params l.chunks.chunks ≡ count_whole l.fn.chunks.params l.fn.chunks.chunks;
       few : count_whole l.fn.chunks.params l.fn.chunks.chunks ≤ 4096;
       same : record l.chunks { chunks = unmapped_chunks l.chunks.params.count l.chunks.chunks } ≡ record l.fn.chunks { chunks = unmapped_chunks l.fn.chunks.params.count l.fn.chunks.chunks };
-      same_zone : pages.params l.pages ≡ l.chunks.params;
+      same_zone : (pages.seen l.pages).params ≡ l.chunks.params;
       zone : l.chunks.params ≡ l.fn.chunks.params;
-      room : count_whole l.chunks.params l.chunks.chunks ≤ pages.backs l.pages;
-      asked : pages.exchanges l.pages ≡ pages.exchanges l.fn.pages ++ replicate l.unmapped (Back l.fn.chunks.params.pages, Taken);
-      grants : pages.grants l.pages ≡ pages.grants l.fn.pages;
-      base : pages.base l.pages ≡ pages.base l.fn.pages;
+      room : count_whole l.chunks.params l.chunks.chunks ≤ (pages.seen l.pages).backs;
+      used : IsUsed (pages.seen l.fn.pages) (pages.seen l.pages) (replicate l.unmapped (Back l.fn.chunks.params.pages, Taken)) 0 0;
     }
 
 abbrev pub decreases-loop-ordinal : goal.decreases-loop-ordinal

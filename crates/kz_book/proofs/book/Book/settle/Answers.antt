@@ -1,8 +1,8 @@
 use Rattle.std.proofs.Common.{◌<◌, length, refl, sym, subst, arith}
 use Rattle.kz_model.specs.declared.record.Visit.{Visit}
-use Rattle.kz_model.specs.Late.{NeedNone}
-use Rattle.kz_model.specs.Zone.{own_of}
-use Rattle.kz_book.specs.Book.{Book, Journal, Keeps, HasRoom, params_of}
+use Rattle.kz_model.specs.Zone.Late.{NeedNone}
+use Rattle.kz_model.specs.Zone.State.{cpu_part}
+use Rattle.kz_book.specs.Book.{Book, History, KeepsHistory, HasRoom, params_of}
 use Rattle.kz_book.specs.Visits.{Settles, settled_of}
 use Rattle.kz_book.proofs.Counts.{room_for_visit, within_push}
 use Rattle.kz_book.proofs.Histories.{settles}
@@ -29,6 +29,6 @@ returns-clause-keeps c =
     let fit = c.self.invariant.fit.params in
     let G : Book → Type 0 = λ b. c.args.cpu < (params_of b).cpus in
     let lt = subst G (sym c.self.view_is) c.requires.cpu in
-    let F : Book → Type 0 = λ b. (j : Journal) → Keeps b j → NeedNone (params_of b) (own_of j.made.end c.args.cpu) c.args.recent.now → (after : Journal) × Keeps new after × Settles (params_of b) c.args.cpu j after c.args.recent.now in
+    let F : Book → Type 0 = λ b. (j : History) → KeepsHistory b j → NeedNone (params_of b) (cpu_part j.made.end c.args.cpu) c.args.recent.now → (after : History) × KeepsHistory new after × Settles (params_of b) c.args.cpu j after c.args.recent.now in
     let all : F old = λ j k none. settles old new j c.args.cpu c.args.recent.now refl refl fit.shape.some_count fit.some_magazine lt k none in
     subst F c.self.view_is all

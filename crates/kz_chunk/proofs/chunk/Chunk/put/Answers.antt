@@ -1,5 +1,5 @@
 use Rattle.std.proofs.Common.{◌≡◌, ◌<◌, ap, ◌∙◌, subst, sym, arith}
-use Rattle.kz_model.specs.Whole.{times_idle}
+use Rattle.kz_model.specs.Zone.Whole.{times_idle}
 use Rattle.kz_chunk.specs.Chunk.{Chunk}
 use Rattle.kz_chunk.proofs.InPlace.{room_for_one}
 use Rattle.kz_chunk.proofs.Pieces.{put_keeps}

@@ -1,7 +1,7 @@
 use Rattle.std.proofs.Common.{◌≡◌, ◌<◌, length, rules, if◌then◌else◌, slice_index_or, slice_set, None, refl, ap, sym, ◌∙◌, subst}
 use Rattle.std.proofs.lemmas.List.{get_or_default}
-use Rattle.kz_model.specs.Rules.{name_of}
-use Rattle.kz_model.specs.Zone.{Own}
+use Rattle.kz_model.specs.Zone.Rules.{name_of}
+use Rattle.kz_model.specs.Zone.State.{CpuPart}
 use Rattle.kz_cpu.specs.Cpu.{Cpu, Cache, Has, IsElsewhere, IsOnZone, IsTagged, binding_at}
 use Rattle.kz_cpu.specs.Local.{bound_by}
 use Rattle.kz_cpu.specs.OwnReply.{reply_meant}
@@ -39,7 +39,7 @@ returns c =
       most_steps = ap (λ (n : Cache). n.most_steps) kept ∙ ap (λ (n : Cache). n.most_steps) t.is;
       magazine = c.in_ok-own.ensures.magazine ∙ ap (λ (n : Cache). n.pair.magazine) t.is;
     } in
-    let F : Cpu → Type 0 = λ o. ((own : Own) → Has o zone own → IsLocal o new zone step (reply_meant c.in_ok-own.own) own) × IsElsewhere o new zone step in
+    let F : Cpu → Type 0 = λ o. ((own : CpuPart) → Has o zone own → IsLocal o new zone step (reply_meant c.in_ok-own.own) own) × IsElsewhere o new zone step in
     let all : F old = (λ own h. is_local old new zone step k after (bound_by before) (bound_by now) (reply_meant c.in_ok-own.own) own t c.in_ok-own.ensures.answers ch h, elsewhere old new zone step (bound_by now) after on ch) in
     let made = subst F c.self.view_is all in
     record {

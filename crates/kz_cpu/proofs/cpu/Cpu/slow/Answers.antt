@@ -1,9 +1,9 @@
 use Rattle.std.proofs.Common.{◌≡◌, ◌<◌, true, rules, List, if◌then◌else◌, slice_index_or, slice_set, None, refl, ap, sym, ◌∙◌, subst}
 use Rattle.std.specs.Vec.{with_items}
 use Rattle.kz_model.specs.declared.step.Step.{Step}
-use Rattle.kz_model.specs.Rules.{name_of, needs_visit}
-use Rattle.kz_model.specs.Zone.{own_of}
-use Rattle.kz_book.specs.Book.{Journal, Keeps, params_of}
+use Rattle.kz_model.specs.Zone.Rules.{name_of, needs_visit}
+use Rattle.kz_model.specs.Zone.State.{cpu_part}
+use Rattle.kz_book.specs.Book.{History, KeepsHistory, params_of}
 use Rattle.kz_book.specs.Visits.{IsAtVisit, Extends, bound_there, has_name, own_now}
 use Rattle.kz_cpu.specs.Caught.{IsCaughtUp}
 use Rattle.kz_cpu.specs.Cpu.{Cpu, Cache, IsElsewhere, IsOnZone, cache_at, recent_at}
@@ -40,15 +40,15 @@ returns g c =
     } in
     let left : IsVisited old new zone step after now = record { changes = ch; recent = c.clear.ensures } in
     let keeps = c.visit-reply.ensures.keeps in
-    let made : List Step → Type 0 = λ recent. (j : Journal) → Keeps book j → IsAtVisit p j old.cpu recent k.pair.blocks bound step →
-    (next : Journal) × Keeps c.visit-reply.new.self next × Extends p old.cpu j next recent step c.visit-reply.result keeps.0 × (after.pair.blocks ≡ (own_of next.made.end old.cpu).stack) × (now ≡ bound_there (own_of next.made.end old.cpu) step) in
-    let visit : made (recent_at old zone) = subst made (ap (λ (n : Cache). n.recent) t.is) keeps.3 in
-    let At : Cpu → Type 0 = λ o. (j : Journal) × Keeps book j × IsCaughtUp o zone j × (needs_visit p (own_now p j o.cpu (recent_at o zone)) step ≡ true) in
+    let made : List Step → Type 0 = λ recent. (j : History) → KeepsHistory book j → IsAtVisit p j old.cpu recent k.pair.blocks bound step →
+    (next : History) × KeepsHistory c.visit-reply.new.self next × Extends p old.cpu j next recent step c.visit-reply.result keeps.0 × (after.pair.blocks ≡ (cpu_part next.made.end old.cpu).stack) × (now ≡ bound_there (cpu_part next.made.end old.cpu) step) in
+    let visit : made (recent_at old zone) = subst made (ap (λ (n : Cache). n.recent) t.is) keeps.2 in
+    let At : Cpu → Type 0 = λ o. (j : History) × KeepsHistory book j × IsCaughtUp o zone j × (needs_visit p (own_now p j o.cpu (recent_at o zone)) step ≡ true) in
     let at = subst At (sym c.self.view_is) c.requires.at in
     let same = subst (λ (o : Cpu). p ≡ (cache_at o zone).params) (sym c.self.view_is) c.requires.same_params in
     let lt = subst (λ (o : Cpu). o.cpu < p.cpus) (sym c.self.view_is) c.requires.cpu in
     let F : Cpu → Type 0 = λ o.
-    ((j : Journal) → Keeps book j → IsCaughtUp o zone j → (next : Journal) × Keeps c.visit-reply.new.self next × Extends p o.cpu j next (recent_at o zone) step c.visit-reply.result keeps.0 × IsCaughtUp new zone next)
+    ((j : History) → KeepsHistory book j → IsCaughtUp o zone j → (next : History) × KeepsHistory c.visit-reply.new.self next × Extends p o.cpu j next (recent_at o zone) step c.visit-reply.result keeps.0 × IsCaughtUp new zone next)
     × IsElsewhere o new zone step in
     let all : F old = (
       λ j kept caught.
@@ -59,14 +59,9 @@ returns g c =
     let done = subst F c.self.view_is all in
     record {
       visits = search rules;
-      room = search rules;
-      most_chunks = search rules;
-      most_gifts = search rules;
-      keeps = (keeps.0, keeps.1, keeps.2, done.0);
+      same = c.visit-reply.ensures.same;
+      keeps = (keeps.0, keeps.1, done.0);
       recent = search rules;
       elsewhere = done.1;
-      grants = search rules;
-      params = search rules;
-      base = search rules;
       learns = search rules;
     }

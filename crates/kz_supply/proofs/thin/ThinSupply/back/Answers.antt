@@ -1,7 +1,7 @@
 use Rattle.std.proofs.Common.{◌<◌, ◌≤◌, length, refl, sym, subst, ap, arith}
 use Rattle.kz_model.specs.declared.supply.Ask.TheVariants.{Back}
 use Rattle.kz_model.specs.declared.supply.Answer.TheVariants.{Taken}
-use Rattle.kz_model.specs.Supply.{stock_after}
+use Rattle.kz_model.specs.Run.Supply.{stock_after}
 use Rattle.kz_supply.specs.Supply.{frames_out}
 use Rattle.kz_supply.specs.Thin.{ThinSupply}
 use Rattle.kz_supply.proofs.Logs.{kept_more}

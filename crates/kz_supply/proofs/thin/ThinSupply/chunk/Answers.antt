@@ -1,6 +1,6 @@
 use Rattle.std.proofs.Common.{◌<◌, length, sym, subst, ap, ◌∙◌, arith}
 use Rattle.kz_model.specs.declared.supply.Answer.{Answer}
-use Rattle.kz_model.specs.Supply.{stock_after}
+use Rattle.kz_model.specs.Run.Supply.{stock_after}
 use Rattle.kz_model.specs.declared.supply.Ask.TheVariants.{Chunk}
 use Rattle.kz_supply.specs.Thin.{ThinSupply}
 use Rattle.kz_supply.proofs.Logs.{kept_more}

@@ -1,4 +1,8 @@
-use Rattle.std.proofs.Common.{arith}
+use Rattle.std.proofs.Common.{◌+◌, refl, ap, arith}
+use Rattle.kz_model.specs.declared.supply.Ask.TheVariants.{Back}
+use Rattle.kz_model.specs.declared.supply.Answer.TheVariants.{Taken}
+use Rattle.kz_supply.specs.Supply.{Supply}
+use Rattle.kz_supply.proofs.Entries.{asked_once, begun_same, grants_after_back}
 use Rattle.kz_supply.proofs.Grants.{chunks_before, frames_before}
 use Rattle.kz_supply.proofs.Rooms.{backs_after}
 use Rattle.kz_supply.proofs.thin_pages.ThinPagesPages.back.Goals as goal
@@ -8,12 +12,14 @@ returns-clause-room c =
     let pages = c.args.self.now in
     rw (c.back.ensures.logged, c.requires.whole) (backs_after pages.params.zone pages.params.pages pages.supply.now.counted (omega (arith, pages.some)) c.requires.room)
 
-pub returns-clause-chunks : goal.returns-clause-chunks
-returns-clause-chunks c =
+pub returns-clause-used : goal.returns-clause-used
+returns-clause-used c =
     let pages = c.args.self.now in
-    rw c.back.ensures.logged (chunks_before pages.start pages.params _ _ pages.supply.now pages.begun)
-
-pub returns-clause-frames : goal.returns-clause-frames
-returns-clause-frames c =
-    let pages = c.args.self.now in
-    rw c.back.ensures.logged (frames_before pages.start pages.params _ pages.supply.now pages.begun)
+    record {
+      asked = rw (c.back.ensures.logged, c.requires.whole) (asked_once pages.params.zone (Back pages.params.pages) Taken pages.supply.now.counted.log);
+      params = refl;
+      base = rw (c.back.ensures.logged, c.requires.whole) (ap (λ (s : Supply). record { counted = record { borrow = pages.supply.ghost_name; supply = s }; made = pages.supply.now.made }) (begun_same pages.start _ pages.supply.now.counted pages.begun));
+      grants = rw (c.back.ensures.logged, c.requires.whole) (ap (λ n. n + 0) (grants_after_back pages.params.zone pages.params.pages pages.params.submap pages.params.pages pages.supply.now.counted));
+      chunks = rw (c.back.ensures.logged, c.requires.whole) (chunks_before pages.start pages.params _ _ pages.supply.now pages.begun);
+      frames = rw (c.back.ensures.logged, c.requires.whole) (frames_before pages.start pages.params _ pages.supply.now pages.begun);
+    }

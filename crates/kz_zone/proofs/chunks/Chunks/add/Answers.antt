@@ -1,7 +1,7 @@
 use Rattle.std.proofs.Common.{◌≡◌, ℕ, ◌++◌, ◌∷◌, [], List, ap, sym, ◌∙◌}
 use Rattle.std.proofs.lemmas.List.{map_push}
 use Rattle.kz_model.specs.declared.record.ZoneParams.{ZoneParams}
-use Rattle.kz_model.specs.Pick.{fresh_chunk}
+use Rattle.kz_model.specs.Zone.Pick.{fresh_chunk}
 use Rattle.kz_chunk.specs.Chunk.{Chunk}
 use Rattle.kz_zone.specs.Chunks.{Chunks as Seen, shape_of}
 use Rattle.kz_zone.proofs.OneChange.{seen}

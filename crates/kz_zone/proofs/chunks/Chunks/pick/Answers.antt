@@ -1,7 +1,7 @@
 use Rattle.std.proofs.Common.{◌≡◌, ℕ, ◌<◌, Some, List, length, ap, sym, ◌∙◌}
 use Rattle.kz_model.specs.declared.record.ZoneParams.{ZoneParams}
-use Rattle.kz_model.specs.Zone.{chunk_at}
-use Rattle.kz_model.specs.Pick.{without_idle}
+use Rattle.kz_model.specs.Zone.State.{chunk_at}
+use Rattle.kz_model.specs.Zone.Pick.{without_idle}
 use Rattle.kz_chunk.specs.Chunk.{Chunk}
 use Rattle.kz_zone.specs.Chunks.{Chunks as Seen}
 use Rattle.kz_zone.proofs.OneChange.{seen, idle_within, seen_within, is_there, still_chunks, seen_changed}

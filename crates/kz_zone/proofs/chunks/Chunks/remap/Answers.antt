@@ -1,5 +1,5 @@
 use Rattle.std.proofs.Common.{ap, sym, ◌∙◌}
-use Rattle.kz_model.specs.Pick.{fresh_chunk}
+use Rattle.kz_model.specs.Zone.Pick.{fresh_chunk}
 use Rattle.kz_zone.specs.Chunks.{Chunks as Seen}
 use Rattle.kz_zone.proofs.OneChange.{seen_within, is_there, still_chunks, seen_changed}
 use Rattle.kz_zone.proofs.Fresh.{mapped_fresh}

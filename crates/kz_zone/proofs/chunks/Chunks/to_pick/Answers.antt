@@ -1,13 +1,14 @@
-use Rattle.std.proofs.Common.{◌≡◌, ℕ, ◌<◌, List, length, arith, Option, None, Some, refl, ap, sym, ◌∙◌}
+use Rattle.std.proofs.Common.{◌≡◌, ℕ, ◌<◌, List, length, arith, Option, None, Some, refl, ap, sym, ◌∙◌, subst}
 use Rattle.std.specs.List.{position}
-use Rattle.std.specs.Option.{option_or, IfSome}
-use Rattle.kz_model.specs.Zone.{Chunk, chunk_at}
+use Rattle.std.specs.Option.{option_or, is_some, IfSome}
+use Rattle.kz_model.specs.Zone.State.{Chunk, chunk_at}
 use Rattle.kz_model.proofs.Standing.{chunk-picked}
 use Rattle.kz_queue.specs.Shelf.{lowest_at}
 use Rattle.kz_queue.specs.declared.place.Place.TheVariants.{Part}
-use Rattle.kz_model.specs.Pick.{is_part, first_of_two, chunk_to_pick}
+use Rattle.kz_model.specs.Zone.Pick.{is_part, first_of_two, chunk_to_pick, has_idle}
 use Rattle.kz_zone.specs.Chunks.{Chunks as Seen, states_of}
-use Rattle.kz_zone.proofs.Places.{part-lowest}
+use Rattle.kz_zone.specs.Growing.{with_chunks}
+use Rattle.kz_zone.proofs.Places.{part-lowest, idle_to_pick}
 use Rattle.kz_zone.proofs.chunks.Chunks.to_pick.Goals as goal
 
 first_is : (a b : Option ℕ) → option_or a b ≡ first_of_two a b
@@ -28,3 +29,10 @@ returns-clause-ordinal c =
 pub returns-clause-idle : goal.returns-clause-idle
 returns-clause-idle c =
     some_idle c.args.self.now.params.count c.args.self.now.chunks c.or.result (omega (arith, c.self.invariant.fit.shape.some_count, ap (λ (z : Seen). z.params.count) c.self.view_is)) (returns-clause-ordinal c)
+
+pub returns-clause-some : goal.returns-clause-some
+returns-clause-some c =
+    let i = c.self.inside in
+    let chunks = states_of i.chunks.items in
+    let same : is_some (chunk_to_pick i.params.count chunks) ≡ has_idle (with_chunks chunks) = sym (idle_to_pick i.params chunks c.self.invariant.fit.shape.some_count c.self.invariant.kept) in
+    ap is_some (returns-clause-ordinal c) ∙ subst (λ (z : Seen). is_some (chunk_to_pick z.params.count z.chunks) ≡ has_idle (with_chunks z.chunks)) c.self.view_is same

@@ -1,5 +1,5 @@
 use Rattle.std.proofs.Common.{Some, ap, sym, ◌∙◌}
-use Rattle.kz_model.specs.Zone.{no_chunk}
+use Rattle.kz_model.specs.Zone.State.{no_chunk}
 use Rattle.kz_zone.proofs.OneChange.{seen_within, whole_within, is_there, still_chunks, seen_changed}
 use Rattle.kz_zone.proofs.chunks.Chunks.unmap.Goals as goal
 

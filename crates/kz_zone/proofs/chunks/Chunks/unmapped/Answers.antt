@@ -1,7 +1,7 @@
 use Rattle.std.proofs.Common.{ap, ◌∙◌}
 use Rattle.kz_queue.specs.Shelf.{lowest_at}
 use Rattle.kz_queue.specs.declared.place.Place.TheVariants.{Gone}
-use Rattle.kz_model.specs.Pick.{unmapped_place}
+use Rattle.kz_model.specs.Zone.Pick.{unmapped_place}
 use Rattle.kz_zone.specs.Chunks.{Chunks as Seen, states_of}
 use Rattle.kz_zone.proofs.Places.{unmapped-lowest}
 use Rattle.kz_zone.proofs.chunks.Chunks.unmapped.Goals as goal

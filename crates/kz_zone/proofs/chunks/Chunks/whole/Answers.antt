@@ -2,7 +2,7 @@ use Rattle.std.proofs.Common.{ap, ◌∙◌}
 use Rattle.std.specs.List.{position}
 use Rattle.kz_queue.specs.Shelf.{lowest_at}
 use Rattle.kz_queue.specs.declared.place.Place.TheVariants.{Whole}
-use Rattle.kz_model.specs.Pick.{is_whole}
+use Rattle.kz_model.specs.Zone.Pick.{is_whole}
 use Rattle.kz_zone.specs.Chunks.{Chunks as Seen, states_of}
 use Rattle.kz_zone.proofs.Places.{whole-lowest}
 use Rattle.kz_zone.proofs.chunks.Chunks.whole.Goals as goal

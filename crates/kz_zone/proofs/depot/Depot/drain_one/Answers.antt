@@ -49,9 +49,9 @@ still_depot magazine room n lists_capacity capacity left_lists left_blocks lengt
 -- what is known of the block that is taken out
 drains_here : (z : Seen) (magazine room n lists_capacity capacity : ℕ) (lengths before after : List ℕ) (blocks rest : List Block) (r : Option Block) (block : Block) → let d : Seen = record { magazine = magazine; room = room; lists = lists_of lengths blocks } in d ≡ z →
     IsDepot magazine room lengths blocks lists_capacity capacity → lengths ≡ before ++ n ∷ [] → blocks ≡ rest ++ option_to_list r → r ≡ Some block → after ≡ with_rest before (n - 1) → Drains z block after rest
-drains_here z magazine room n lists_capacity capacity lengths before after blocks rest r block is h cut popped some left =
+drains_here z magazine room n lists_capacity capacity lengths before after blocks rest r block is h cut pop_effect some left =
     let each = All-pop (λ n. (0 < n) × (n ≤ magazine)) lengths before (Some n) cut h.each in
-    drains z magazine room n (length blocks - n) lengths before after blocks rest block is cut h.whole each.1.0 refl (popped ∙ ap (λ o. rest ++ option_to_list o) some) left
+    drains z magazine room n (length blocks - n) lengths before after blocks rest block is cut h.whole each.1.0 refl (pop_effect ∙ ap (λ o. rest ++ option_to_list o) some) left
 
 pub invariant_of-self-2 : goal.invariant_of-self-2
 invariant_of-self-2 c =

@@ -1,6 +1,6 @@
 use Rattle.std.proofs.Common.{◌≡◌, ◌-◌, length, take, drop, refl, ap, sym, ◌∙◌, arith}
 use Rattle.std.proofs.lemmas.List.{take_rest}
-use Rattle.kz_model.specs.Rules.{last_list, before_last_list}
+use Rattle.kz_model.specs.Zone.Rules.{last_list, before_last_list}
 use Rattle.kz_zone.specs.Depot.{lists_of}
 use Rattle.kz_zone.proofs.Lists.{ends_in, last_list-push, before_last_list-push}
 use Rattle.kz_zone.proofs.depot.Depot.get.Goals as goal

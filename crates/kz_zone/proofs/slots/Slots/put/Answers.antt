@@ -3,7 +3,7 @@ use Rattle.std.specs.Result.{IsOk, IfOk, OnOk}
 use Rattle.std.specs.Map.{lookup}
 use Rattle.std.specs.HashMap.{HashMap, spare}
 use Rattle.std.proofs.lemmas.List.{get_or_read, length_push, length-set}
-use Rattle.kz_model.specs.Zone.{Gift}
+use Rattle.kz_model.specs.Zone.State.{Gift}
 use Rattle.kz_zone.specs.declared.slots.Slot.{Slot}
 use Rattle.kz_zone.specs.declared.slots.Ends.{Ends}
 use Rattle.kz_zone.specs.Slots.{Slots as Seen, gifts_in, no_slot, same_key, slot_at, AreEnds, IsFound, AreSlots}

@@ -2,8 +2,8 @@ use Rattle.std.proofs.Common.{◌≡◌, ℕ, Option, Some, None, List, true, re
 use Rattle.std.specs.List.{remove}
 use Rattle.std.proofs.lemmas.List.{get_or_read, length-set}
 use Rattle.std.proofs.lemmas.Map.Steps.{set_value_same}
-use Rattle.kz_model.specs.Zone.{Gift}
-use Rattle.kz_model.specs.Rules.{gift_place, gift_at}
+use Rattle.kz_model.specs.Zone.State.{Gift}
+use Rattle.kz_model.specs.Zone.Rules.{gift_place, gift_at}
 use Rattle.kz_zone.specs.declared.slots.Slot.{Slot}
 use Rattle.kz_zone.specs.declared.slots.Ends.{Ends}
 use Rattle.kz_zone.specs.Slots.{Slots as Seen, gifts_in, no_slot, same_key, slot_at}

@@ -1,10 +1,13 @@
-use Rattle.std.proofs.Common.{◌≡◌, false, nat_lt, List, [], ◌∷◌, length, refl, ap, sym, ◌∙◌, arith}
+use Rattle.std.proofs.Common.{◌≡◌, false, nat_lt, List, [], ◌∷◌, length, refl, ap, sym, ◌∙◌, subst, arith}
 use Rattle.kz_model.specs.declared.step.Block.{Block}
 use Rattle.kz_model.specs.declared.record.ZoneParams.{ZoneParams}
 use Rattle.kz_zone.specs.Depot.{Depot}
-use Rattle.kz_zone.specs.Zone.{Zone}
+use Rattle.kz_zone.specs.Chunks.{Chunks}
+use Rattle.kz_zone.specs.Growth.{CanServe, chunks_of}
+use Rattle.kz_zone.specs.Zone.{Zone, want_of}
+use Rattle.kz_zone.proofs.Asked.{wants_same, asked_growth}
 use Rattle.kz_zone.specs.Picks.{picked}
-use Rattle.kz_zone.proofs.Refilling.{refills, stacked, size_picked, some_filled}
+use Rattle.kz_zone.proofs.Refilling.{seen, refills, stacked, size_picked, some_filled}
 use Rattle.kz_zone.proofs.zone.Zone.refill.Goals as goal
 
 -- where the depot gives no list it has none
@@ -43,7 +46,20 @@ returns-clause-some g c =
     let magazine = ap (λ (p : ZoneParams). p.magazine) c.params-magazine.ensures in
     some_filled i.chunks c.ready.new.chunks c.params-magazine.result.magazine i.words c.get.new.into c.pick_onto.new.into c.keeps-2.ensures.fit e.stays.params e.ready c.keeps-2.ensures.kept magazine c.pick_onto.ensures.blocks
 
-pub returns-clause-grants : goal.returns-clause-grants
-returns-clause-grants g c =
-    let size = size_picked c.ready.new.chunks c.pick_onto.new.chunks c.params-magazine.result.magazine c.self.inside.words c.pick_onto.ensures.chunks in
-    omega (arith, size, c.in_ok-ready.ensures.grants, ap (λ (z : Zone). length z.chunks) c.self.view_is)
+pub ready-requires : goal.ready-requires
+ready-requires g c =
+    let i = c.self.inside in
+    let pages = g.P.Pages in
+    let none = no_lists i.depot.lists (sym c.if-get.false ∙ c.get.ensures.some) in
+    let serves : CanServe (pages.seen c.args.pages.now) i.chunks (want_of (seen i.chunks i.depot.lists i.transit i.words)) 0 = subst (λ (z : Zone). CanServe (pages.seen c.args.pages.now) (chunks_of z) (want_of z) 0) (sym c.self.view_is) c.requires.serves in
+    record { serves = subst (λ want. CanServe (pages.seen c.args.pages.now) i.chunks want 0) (wants_same i.chunks i.depot.lists i.transit i.words none) serves }
+
+pub returns-clause-asked : goal.returns-clause-asked
+returns-clause-asked g c =
+    let i = c.self.inside in
+    let pages = g.P.Pages in
+    let now = c.ready.new.chunks in
+    let taken = c.pick_onto.ensures.chunks in
+    let none = no_lists i.depot.lists (sym c.if-get.false ∙ c.get.ensures.some) in
+    asked_growth c.args.self.now i.chunks now c.pick_onto.new.chunks i.transit i.depot.lists c.get.new.self.lists i.words c.pick_onto.new.words _ (pages.seen c.args.pages.now) (pages.seen c.ready.new.pages) c.self.view_is none
+    (ap (λ (d : Chunks). d.bases) taken) (size_picked now c.pick_onto.new.chunks c.params-magazine.result.magazine i.words taken) c.in_ok-ready.ensures.asked
