@@ -12,11 +12,11 @@ use Rattle.kz_model.specs.declared.record.Record.{Record}
 use Rattle.kz_model.specs.declared.record.Visit.{Visit}
 use Rattle.kz_model.specs.declared.step.Reply.{Reply}
 use Rattle.kz_model.specs.declared.supply.SupplyEntry.{SupplyEntry}
-use Rattle.kz_model.specs.Journal.{trace_of, lines_of_round}
-use Rattle.kz_model.specs.Planned.{IsPlanned}
-use Rattle.kz_model.specs.Recorded.{cpu_answered, cpu_replies, IsOfOrder}
-use Rattle.kz_model.specs.Report.{Answered, answered_after, answered_lines}
-use Rattle.kz_model.specs.Valid.{IsValid}
+use Rattle.kz_model.specs.Run.Journal.{trace_of, lines_of_round}
+use Rattle.kz_model.specs.Types.Planned.{IsPlanned}
+use Rattle.kz_model.specs.Run.Recorded.{cpu_answered, cpu_replies, IsOfOrder}
+use Rattle.kz_model.specs.Text.Report.{Answered, answered_after, answered_lines}
+use Rattle.kz_model.specs.Grammar.Valid.{IsValid}
 use Rattle.kz_model.proofs.TraceRounds.{trace_by_rounds}
 
 answered-length : (b : Bundle) (plan : Plan) (journals : List (List Visit)) (log : List SupplyEntry) (cpu round : ℕ) (earlier lines : List TraceStep) →

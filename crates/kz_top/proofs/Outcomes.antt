@@ -1,13 +1,13 @@
 -- From what the parts of the work promise to what the top call does.
 use Rattle.std.proofs.Common.{◌≡◌, ◌≢◌, ◌⊎◌, ◌≤◌, ◌<◌, ◌^◌, Bool, IsTrue, ℕ, List, [], ◌∷◌, length, Option, None, Some, Result, Ok, Err, IfSome, codes, refl, ap, sym, ◌∙◌, subst, inl, inr, arith}
 use Rattle.std.specs.Io.KnownBytes.{Appends}
-use Rattle.kz_text.specs.Numbers.{number_of}
+use Rattle.kz_model.specs.Grammar.Tokens.{number_of}
 use Rattle.kz_text.specs.Streams.{Rose, AppendsFront}
 use Rattle.kz_model.specs.declared.bundle.Bundle.{Bundle}
 use Rattle.kz_model.specs.declared.grammar.Refusal.{Refusal}
-use Rattle.kz_model.specs.Made.{made_text}
-use Rattle.kz_model.specs.Spelling.{Spells, IsFirstFault}
-use Rattle.kz_model.specs.Stages.{read}
+use Rattle.kz_model.specs.Text.Made.{made_text}
+use Rattle.kz_model.specs.Grammar.Spelling.{Spells, IsFirstFault}
+use Rattle.kz_model.specs.Grammar.Stages.{read}
 use Rattle.kz_bundle.proofs.Walking.{spelling_is_reading}
 use Rattle.kz_top.specs.declared.command.Command.{Command}
 use Rattle.kz_top.specs.declared.command.Command.TheVariants as command

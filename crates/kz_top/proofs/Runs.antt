@@ -10,14 +10,15 @@ use Rattle.kz_model.specs.declared.record.Record.{Record}
 use Rattle.kz_model.specs.declared.record.Visit.{Visit}
 use Rattle.kz_model.specs.declared.step.Reply.{Reply}
 use Rattle.kz_model.specs.declared.supply.SupplyEntry.{SupplyEntry}
-use Rattle.kz_model.specs.Order.{order_run}
-use Rattle.kz_model.specs.Planned.{IsPlanned}
-use Rattle.kz_model.specs.Recorded.{cpu_answered, cpu_replies, IsAnswered, IsOfOrder}
-use Rattle.kz_model.specs.Report.{Answered, all_answered_lines, report_text}
-use Rattle.kz_model.specs.Spelling.{Spells}
-use Rattle.kz_model.specs.Summary.{replies_of_run, summary_text}
-use Rattle.kz_model.specs.Valid.{layouts_in, plan_in, replayed_text}
-use Rattle.kz_model.proofs.Isolated.{runs_are_isolated}
+use Rattle.kz_model.specs.Run.Order.{order_run}
+use Rattle.kz_model.specs.Types.Planned.{IsPlanned}
+use Rattle.kz_model.specs.Run.Recorded.{cpu_answered, cpu_replies, IsAnswered, IsOfOrder}
+use Rattle.kz_model.specs.Text.Report.{Answered, all_answered_lines, report_text}
+use Rattle.kz_model.specs.Grammar.Spelling.{Spells}
+use Rattle.kz_model.specs.Text.Summary.{replies_of_run, summary_text}
+use Rattle.kz_model.specs.Grammar.Valid.{layouts_in, plan_in}
+use Rattle.kz_model.specs.Text.Report.{replayed_text}
+use Rattle.kz_laws.proofs.Isolated.{runs_are_isolated}
 use Rattle.kz_bundle.proofs.Validity.{reading_is_valid}
 use Rattle.kz_bundle.proofs.Walking.{spelling_is_reading}
 use Rattle.kz_plan.proofs.Fit.{plans_are_fit}

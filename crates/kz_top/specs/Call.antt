@@ -2,7 +2,7 @@
 use Rattle.std.specs.Prelude.{◌≡◌, ◌≢◌, ◌⊎◌, ◌<◌, ◌≤◌, ◌^◌, Bool, IsTrue, ℕ, List, [], ◌∷◌, ◌++◌, Option, Some, length, codes, decimal}
 use Rattle.std.specs.Option.{IfSome}
 use Rattle.std.specs.Io.KnownBytes.{Appends}
-use Rattle.kz_text.specs.Numbers.{number_of}
+use Rattle.kz_model.specs.Grammar.Tokens.{number_of}
 use Rattle.kz_text.specs.Streams.{Rose, AppendsFront}
 use Rattle.kz_model.specs.declared.bundle.Bundle.{Bundle}
 use Rattle.kz_model.specs.declared.grammar.Cause.{Cause}
@@ -10,12 +10,13 @@ use Rattle.kz_model.specs.declared.grammar.Cause.TheVariants as cause
 use Rattle.kz_model.specs.declared.grammar.Counted.{Counted}
 use Rattle.kz_model.specs.declared.grammar.Counted.TheVariants as counted
 use Rattle.kz_model.specs.declared.grammar.Refusal.{Refusal}
-use Rattle.kz_model.specs.Isolation.{IsIsolated}
-use Rattle.kz_model.specs.Made.{made_text}
-use Rattle.kz_model.specs.Order.{order_run}
-use Rattle.kz_model.specs.Spelling.{Spells, IsFirstFault}
-use Rattle.kz_model.specs.Summary.{made_summary}
-use Rattle.kz_model.specs.Valid.{plan_in, planned_text, replayed_text}
+use Rattle.kz_laws.specs.Isolation.{IsIsolated}
+use Rattle.kz_model.specs.Text.Made.{made_text}
+use Rattle.kz_model.specs.Run.Order.{order_run}
+use Rattle.kz_model.specs.Grammar.Spelling.{Spells, IsFirstFault}
+use Rattle.kz_model.specs.Text.Summary.{made_summary}
+use Rattle.kz_model.specs.Grammar.Valid.{plan_in}
+use Rattle.kz_model.specs.Text.Report.{planned_text, replayed_text}
 use Rattle.kz_top.specs.declared.command.Command.{Command}
 use Rattle.kz_top.specs.declared.command.Command.TheVariants as command
 use Rattle.kz_top.specs.declared.status.Status.{Status}
@@ -27,7 +28,8 @@ use Rattle.kz_top.specs.declared.status.Status.TheVariants as status
 abbrev pub Asks : List (List ℕ) → Command → Type 0
 Asks words command.Plan = words ≡ codes "plan" ∷ []
 Asks words command.Replay = words ≡ codes "replay" ∷ []
-Asks words (command.Make number) = (digits : List ℕ) × (words ≡ codes "make" ∷ digits ∷ []) × (number_of digits ≡ Some number)
+Asks words (command.Make number) = (digits : List ℕ) × (words ≡ codes "make" ∷ digits ∷ []) ×
+    (number_of digits ≡ Some number)
 
 -- the words are no command's
 abbrev pub AskNothing : List (List ℕ) → Type 0
@@ -63,7 +65,8 @@ pub record MakesOf (command : Command) (bytes text : List ℕ) : Type 0 where
   pub spells : Spells bytes bundle
   pub is_text : text ≡ text_for command bundle
 
--- What the command takes, where these bytes are the input, spells a bundle, and this is the text that the command makes of it.
+-- What the command takes, where these bytes are the input, spells a bundle, and this is the text that the command makes
+-- of it.
 abbrev pub Gives : Command → List ℕ → List ℕ → Type 0
 Gives command bytes text = MakesOf command (taken_text command bytes) text
 
@@ -86,15 +89,18 @@ IsKeptApart bytes =
 
 -- what out took grew by the text that the bytes give
 abbrev pub TakesText : List (List ℕ) → List ℕ → Option (List ℕ) → Option (List ℕ) → Type 0
-TakesText words bytes old new = (command : Command) × (text : List ℕ) × Asks words command × Gives command bytes text × Appends old new text
+TakesText words bytes old new = (command : Command) × (text : List ℕ) × Asks words command × Gives command bytes text ×
+    Appends old new text
 
 -- or by a part from its front
 abbrev pub TakesFront : List (List ℕ) → List ℕ → Option (List ℕ) → Option (List ℕ) → Type 0
-TakesFront words bytes old new = (command : Command) × (text : List ℕ) × Asks words command × Gives command bytes text × AppendsFront old new text
+TakesFront words bytes old new = (command : Command) × (text : List ℕ) × Asks words command × Gives command bytes text
+    × AppendsFront old new text
 
 -- the refusal is that of these bytes
 abbrev pub IsRefusalOf : List (List ℕ) → List ℕ → Refusal → Type 0
-IsRefusalOf words bytes refusal = IsTooLong bytes refusal ⊎ ((command : Command) × Asks words command × (length bytes ≤ most_bytes) × Refuses command bytes refusal)
+IsRefusalOf words bytes refusal = IsTooLong bytes refusal
+    ⊎ ((command : Command) × Asks words command × (length bytes ≤ most_bytes) × Refuses command bytes refusal)
 
 -- ---- the line on err
 
@@ -134,7 +140,8 @@ cause_text cause.Trailing = codes "trailing"
 cause_text cause.TooLong = codes "too long"
 
 abbrev pub refusal_line : Refusal → List ℕ
-refusal_line refusal = codes "kzone: line " ++ decimal refusal.line ++ codes ": " ++ cause_text refusal.cause ++ codes "\n"
+refusal_line refusal = codes "kzone: line " ++ decimal refusal.line ++ codes ": " ++ cause_text refusal.cause
+    ++ codes "\n"
 
 abbrev pub status_line : Status → List ℕ
 status_line status.Ok = []
@@ -162,40 +169,56 @@ IsMadeFor command.Plan items = Unit {0}
 IsMadeFor command.Replay items = Unit {0}
 IsMadeFor (command.Make number) items = (number < 2 ^ 64) × (items ≡ made_text number)
 
--- What the work of a call makes of the bytes that its command takes: what the output took before and after, its count of faults before and after, and its
+-- What the work of a call makes of the bytes that its command takes: what the output took before and after, its count
+-- of faults before and after, and its
 -- sure room.
-pub record IsFinished (command : Command) (items : List ℕ) (old new : Option (List ℕ)) (before after room : ℕ) (result : Status) : Type 0 where
+pub record IsFinished (command : Command) (items : List ℕ) (old new : Option (List ℕ)) (before after room : ℕ)
+    (result : Status) : Type 0 where
   pub not_usage : result ≢ status.Usage
   pub not_read_fault : result ≢ status.ReadFault
   pub wrote : result ≡ status.Ok → (text : List ℕ) × MakesOf command items text × Appends old new text
   pub refused : (refusal : Refusal) → result ≡ status.Refused refusal → Refuses command items refusal
   pub write_fault : result ≡ status.WriteFault → Rose before after
   pub front : result ≡ status.WriteFault → (text : List ℕ) × MakesOf command items text × AppendsFront old new text
-  pub sure_out : (text : List ℕ) → MakesOf command items text → length text ≤ room → (result ≢ status.WriteFault) × (after ≡ before)
+  pub sure_out : (text : List ℕ) → MakesOf command items text → length text ≤ room → (result ≢ status.WriteFault) ×
+      (after ≡ before)
 
--- What the work of a call makes of its input and its output: what the input tells, its count of faults before and after and whether it is sure; what the
+-- What the work of a call makes of its input and its output: what the input tells, its count of faults before and after
+-- and whether it is sure; what the
 -- output took before and after, its count of faults before and after, and its sure room.
-pub record IsWork (words : List (List ℕ)) (rest : Option (List ℕ)) (read_before read_after : ℕ) (is_sure : Bool) (old new : Option (List ℕ)) (wrote_before wrote_after room : ℕ) (result : Status) : Type 0 where
+pub record IsWork (words : List (List ℕ)) (rest : Option (List ℕ)) (read_before read_after : ℕ) (is_sure : Bool)
+    (old new : Option (List ℕ)) (wrote_before wrote_after room : ℕ) (result : Status) : Type 0 where
   pub wrote : result ≡ status.Ok → (bytes : List ℕ) → rest ≡ Some bytes → TakesText words bytes old new
   pub made : result ≡ status.Ok → (number : ℕ) → Asks words (command.Make number) → TakesText words [] old new
-  pub isolated : result ≡ status.Ok → Asks words command.Replay → (bytes : List ℕ) → rest ≡ Some bytes → IsKeptApart bytes
-  pub refused : (refusal : Refusal) → result ≡ status.Refused refusal → (bytes : List ℕ) → rest ≡ Some bytes → IsRefusalOf words bytes refusal
-  pub made_not_refused : (number : ℕ) (refusal : Refusal) → Asks words (command.Make number) → result ≢ status.Refused refusal
+  pub isolated : result ≡ status.Ok → Asks words command.Replay → (bytes : List ℕ) → rest ≡ Some bytes →
+      IsKeptApart bytes
+  pub refused : (refusal : Refusal) → result ≡ status.Refused refusal → (bytes : List ℕ) → rest ≡ Some bytes →
+      IsRefusalOf words bytes refusal
+  pub made_not_refused : (number : ℕ) (refusal : Refusal) → Asks words (command.Make number) →
+      result ≢ status.Refused refusal
   pub read_fault : result ≡ status.ReadFault → Rose read_before read_after
   pub made_not_read : (number : ℕ) → Asks words (command.Make number) → result ≢ status.ReadFault
   pub write_fault : result ≡ status.WriteFault → Rose wrote_before wrote_after
   pub front : result ≡ status.WriteFault → (bytes : List ℕ) → rest ≡ Some bytes → TakesFront words bytes old new
-  pub made_front : result ≡ status.WriteFault → (number : ℕ) → Asks words (command.Make number) → TakesFront words [] old new
+  pub made_front : result ≡ status.WriteFault → (number : ℕ) → Asks words (command.Make number) →
+      TakesFront words [] old new
   pub later : read_before ≤ read_after
-  pub completes : (command : Command) (bytes text : List ℕ) → Asks words command → rest ≡ Some bytes → length bytes ≤ most_bytes → Gives command bytes text →
-      (Rose read_before read_after → ⊥) → (Rose wrote_before wrote_after → ⊥) → (result ≡ status.Ok) ⊎ (result ≡ status.Memory)
-  pub made_completes : (number : ℕ) → Asks words (command.Make number) → (Rose wrote_before wrote_after → ⊥) → (result ≡ status.Ok) ⊎ (result ≡ status.Memory)
-  pub refuses : (command : Command) (bytes : List ℕ) (refusal : Refusal) → Asks words command → rest ≡ Some bytes → length bytes ≤ most_bytes → Refuses command bytes refusal →
+  pub completes : (command : Command) (bytes text : List ℕ) → Asks words command → rest ≡ Some bytes →
+      length bytes ≤ most_bytes → Gives command bytes text →
+      (Rose read_before read_after → ⊥) → (Rose wrote_before wrote_after → ⊥) → (result ≡ status.Ok)
+      ⊎ (result ≡ status.Memory)
+  pub made_completes : (number : ℕ) → Asks words (command.Make number) → (Rose wrote_before wrote_after → ⊥) →
+      (result ≡ status.Ok) ⊎ (result ≡ status.Memory)
+  pub refuses : (command : Command) (bytes : List ℕ) (refusal : Refusal) → Asks words command → rest ≡ Some bytes →
+      length bytes ≤ most_bytes → Refuses command bytes refusal →
       (Rose read_before read_after → ⊥) → (result ≡ status.Refused refusal) ⊎ (result ≡ status.Memory)
-  pub limits : (command : Command) (bytes : List ℕ) → Asks words command → ReadsInput command → rest ≡ Some bytes → most_bytes < length bytes →
+  pub limits : (command : Command) (bytes : List ℕ) → Asks words command → ReadsInput command → rest ≡ Some bytes →
+      most_bytes < length bytes →
       (Rose read_before read_after → ⊥) → (result ≡ status.Refused too_long) ⊎ (result ≡ status.Memory)
   pub sure_input : IsTrue is_sure → (result ≢ status.ReadFault) × (read_after ≡ read_before)
-  pub sure_out : (command : Command) (bytes text : List ℕ) → Asks words command → rest ≡ Some bytes → Gives command bytes text → length text ≤ room →
+  pub sure_out : (command : Command) (bytes text : List ℕ) → Asks words command → rest ≡ Some bytes →
+      Gives command bytes text → length text ≤ room →
       (result ≢ status.WriteFault) × (wrote_after ≡ wrote_before)
-  pub made_sure_out : (number : ℕ) (text : List ℕ) → Asks words (command.Make number) → Gives (command.Make number) [] text → length text ≤ room →
+  pub made_sure_out : (number : ℕ) (text : List ℕ) → Asks words (command.Make number) →
+      Gives (command.Make number) [] text → length text ≤ room →
       (result ≢ status.WriteFault) × (wrote_after ≡ wrote_before)

@@ -1,8 +1,9 @@
 //! From the bytes of a bundle to the text that is made of it.
 ghost use Rattle.std.specs.Prelude.{◌≡◌, ◌≤◌, All, length, vec_len, IfOk, MatchResult};
-ghost use Rattle.kz_model.specs.Planned.{IsPlanned};
-ghost use Rattle.kz_model.specs.Summary.{summary_text as told, replies_of_run};
-ghost use Rattle.kz_model.specs.Valid.{IsValid, layouts_in, plan_in, replayed_text};
+ghost use Rattle.kz_model.specs.Types.Planned.{IsPlanned};
+ghost use Rattle.kz_model.specs.Text.Summary.{summary_text as told, replies_of_run};
+ghost use Rattle.kz_model.specs.Grammar.Valid.{IsValid, layouts_in, plan_in};
+ghost use Rattle.kz_model.specs.Text.Report.{replayed_text};
 ghost use Rattle.kz_top.specs.Call.{IsMadeFor, MakesOf, Refuses, text_for};
 
 use crate::command::Command;
@@ -93,7 +94,8 @@ pub fn answer(
 ) -> Result<Result<Vec<u8>, Refusal>, AllocError>
     requires few { vec_len bytes ≤ 33554432 }
     requires made { IsMadeFor command bytes.items }
-    ensures { IfOk result (λ outcome. MatchResult outcome (λ text. MakesOf command bytes.items text.items) (λ refusal. Refuses command bytes.items refusal)) }
+    ensures { IfOk result (λ outcome. MatchResult outcome (λ text. MakesOf command bytes.items text.items)
+        (λ refusal. Refuses command bytes.items refusal)) }
 {
     match read_with_layouts(alloc, bytes.as_slice()) {
         Ok((bundle, layouts)) => Ok(Ok(text_of(

@@ -40,7 +40,8 @@ fn command_named(word: &[u8]) -> Option<Command>
 }
 
 fn command_with(word: &[u8], number: &[u8]) -> Option<Command>
-    ensures { MatchOption result (AskNothing (word.now ∷ number.now ∷ [])) (λ command. Asks (word.now ∷ number.now ∷ []) command) }
+    ensures { MatchOption result (AskNothing (word.now ∷ number.now ∷ []))
+        (λ command. Asks (word.now ∷ number.now ∷ []) command) }
 {
     if word == b"make".as_slice() {
         let number = read_u64(number)?;

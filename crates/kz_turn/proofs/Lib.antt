@@ -4,4 +4,3 @@ pub mod Views
 pub mod Stays
 pub mod Passes
 pub mod Closes
-pub mod Pairs

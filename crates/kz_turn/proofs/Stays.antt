@@ -26,8 +26,8 @@ module _ {S B E : Type 0} where
   found m w x y is has = sym (ap (first_or x) has) ∙ ap (λ (k : Me S (View B E)). first_or x k.1) is
 
   -- and the seat then has what it put there
-  pub exchanged : (m m' : Me S (View B E)) (w : View B E) (x y : S) → m ≡ (w, (0, x) ∷ []) → m' ≡ (m.0, (0, y) ∷ rest m.1) → m' ≡ (w, (0, y) ∷ [])
-  exchanged m m' w x y is after = after ∙ ap (λ (k : Me S (View B E)). (k.0, (0, y) ∷ rest k.1)) is
+  pub in_other_order : (m m' : Me S (View B E)) (w : View B E) (x y : S) → m ≡ (w, (0, x) ∷ []) → m' ≡ (m.0, (0, y) ∷ rest m.1) → m' ≡ (w, (0, y) ∷ [])
+  in_other_order m m' w x y is after = after ∙ ap (λ (k : Me S (View B E)). (k.0, (0, y) ∷ rest k.1)) is
 
   -- the seat of a pass, once it has drawn the ticket t, as a loop that changes nothing finds it
   pub waiting : (m m' l : Me S (View B E)) (live : is_live m.0 ≡ true) (t : ℕ) → m.1 ≡ []
@@ -40,7 +40,7 @@ module _ {S B E : Type 0} where
 module _ {T B E : Type 0} where
   -- the seat of a hold, once it has put the value x into the slot
   pub filled : (m m' : Me (Option T) (View B E)) (live : is_live m.0 ≡ true) (x : T) → m.1 ≡ (0, None) ∷ [] → m' ≡ (m.0, (0, Some x) ∷ rest m.1) → m' ≡ (Sits (sitting_of m.0 live), (0, Some x) ∷ [])
-  filled m m' live x out after = exchanged m m' (Sits (sitting_of m.0 live)) None (Some x) (λ i. (sits_is m.0 live i, out i)) after
+  filled m m' live x out after = in_other_order m m' (Sits (sitting_of m.0 live)) None (Some x) (λ i. (sits_is m.0 live i, out i)) after
 
 module _ {T B E : Type 0} (journal : T → List (ℕ × E)) where
   -- what the value's journal is, as the sitting of the hold h has it

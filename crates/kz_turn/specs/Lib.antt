@@ -4,4 +4,3 @@ pub mod Rule
 pub mod Steps
 pub mod Passes
 pub mod Turns
-pub mod Nested

@@ -39,7 +39,8 @@ module _ {T E : Type 0} (log : List (ℕ × E)) (next : ℕ) (homes : List (mayb
     Knows (Sits a) = SitsWell a
 
 -- a seat that was joined into seat 0: its list is that of its number, and no view has the number any more
-pub record IsEnded {B E : Type 0} (start : B) (log : List (ℕ × E)) (made : ℕ) (views : List (View B E)) (p : Ended B E) : Type 0 where
+pub record IsEnded {B E : Type 0} (start : B) (log : List (ℕ × E)) (made : ℕ) (views : List (View B E))
+    (p : Ended B E) : Type 0 where
   pub base : p.base ≡ start
   pub below : p.number < made
   pub own : entries_of p.number log ≡ p.own
@@ -65,14 +66,17 @@ pub record IsOut {T B E : Type 0} (homes : List (maybe.Option (Option T))) (view
 --   `words`: the ticket that is served is the number of entries in the journal of record,
 --     and the next ticket is larger by the number of views with a ticket;
 --   `short`, `few`, `room`: no word comes near its end;
---   `tickets`, `Stands`: tickets differ, and that of a marked view is the one that is served, so one view at most is marked;
+--   `tickets`, `Stands`: tickets differ, and that of a marked view is the one that is served, so one view at most is
+-- marked;
 --   `numbers`, `apart`, `IsEnded`, `counted`: the numbers of views and of ended seats differ, are below `made`,
 --     and are as many, so they are all the numbers that were made;
 --   `zeroth`, `SitsWell`: one of the views is that of seat 0, which knows `made` and `ended`;
---   `SitsWell`, `IsEnded`, `unmade`: the list of each view and of each ended seat is what the journal of record has of its number,
+--   `SitsWell`, `IsEnded`, `unmade`: the list of each view and of each ended seat is what the journal of record has of
+-- its number,
 --     and it has nothing of numbers that are not made yet;
 --   `slot`: the slot has a value with that base and that journal, or is out while a seat is marked.
-pub record IsInTurn {T B E : Type 0} (base : T → B) (journal : T → List (ℕ × E)) (start : B) (seats : ℕ) (s : State (Option T) (View B E)) : Type 0 where
+pub record IsInTurn {T B E : Type 0} (base : T → B) (journal : T → List (ℕ × E)) (start : B) (seats : ℕ)
+    (s : State (Option T) (View B E)) : Type 0 where
   pub log : List (ℕ × E)
   pub made : ℕ
   pub ended : List (Ended B E)
@@ -83,7 +87,8 @@ pub record IsInTurn {T B E : Type 0} (base : T → B) (journal : T → List (ℕ
   pub room : seats < 2 ^ 32
   pub numbers : Differ number_of s.views
   pub tickets : Differ ticket_of s.views
-  pub each_view : (j : ℕ) (v : View B E) → get_elem? s.views j ≡ some v → Knows log (length log + sum_by ticket_count s.views) s.homes start made ended v
+  pub each_view : (j : ℕ) (v : View B E) → get_elem? s.views j ≡ some v →
+      Knows log (length log + sum_by ticket_count s.views) s.homes start made ended v
   pub zeroth : HasZeroth s.views
   pub apart : Differ ended_number ended
   pub each_ended : (k : ℕ) (p : Ended B E) → get_elem? ended k ≡ some p → IsEnded start log made s.views p

@@ -1,5 +1,6 @@
 -- What a draw, a look and a raise tell the seat that steps.
--- `m` is the seat before the step and `m'` the seat after it, each its view and the slots that it holds. `n` is the word that the step found.
+-- `m` is the seat before the step and `m'` the seat after it, each its view and the slots that it holds. `n` is the
+-- word that the step found.
 use Rattle.std.specs.Prelude.{◌≡◌, ◌≢◌, ℕ, List, [], ◌∷◌, ◌++◌, Option, Some}
 use Rattle.atomic_table.specs.Table.{Me, Step}
 use Rattle.kz_turn.specs.declared.view.Stage.TheVariants.{Waits, Serves}
@@ -31,7 +32,8 @@ module _ {T B E : Type 0} (base : T → B) (journal : T → List (ℕ × E)) whe
 
   -- the seat a holds a value whose journal is the noted one and the entry e of its own number
   abbrev pub HoldsMore : Me (Option T) (View B E) → Sitting B E → E → Type 0
-  HoldsMore m a e = (x : T) × (base x ≡ a.base) × (journal x ≡ noted_in a.stage ++ (a.number, e) ∷ []) × (m.1 ≡ (0, Some x) ∷ [])
+  HoldsMore m a e = (x : T) × (base x ≡ a.base) × (journal x ≡ noted_in a.stage ++ (a.number, e) ∷ []) ×
+      (m.1 ≡ (0, Some x) ∷ [])
 
   -- the slot has gone home, the ticket is gone, and the seat's list got the entry
   abbrev pub Raises : Step (Option T) → Me (Option T) (View B E) → ℕ → Me (Option T) (View B E) → Type 0

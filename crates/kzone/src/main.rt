@@ -1,4 +1,9 @@
-//! `kzone`: reads a bundle from standard input, and writes the text of its plan or the report of its replay to standard output. `kzone make N` reads nothing: it writes the summary of the replay of the bundle that is made of the number N.
+//! `kzone`: reads a bundle from standard input, and writes the text of its plan or the report of its replay to
+//! standard output. `kzone make N` reads nothing: it writes the summary of the replay of the bundle that is made of
+//! the number N.
+//!
+//! It alone touches the system: arguments, the three streams, and the exit status. It has no contract of its own; what
+//! the program does is that of `kzone_still`.
 #![tactic(auto)]
 
 use kz_model::Items;

@@ -1,6 +1,6 @@
 -- Only an input is refused.
 use Rattle.std.proofs.Common.{ℕ, List, rules, subst, sym}
-use Rattle.kz_model.specs.Spelling.{IsFirstFault}
+use Rattle.kz_model.specs.Grammar.Spelling.{IsFirstFault}
 use Rattle.kz_top.proofs.Outcomes.{reads_if_refused}
 use Rattle.kz_top.proofs.answer.answer.Goals as goal
 

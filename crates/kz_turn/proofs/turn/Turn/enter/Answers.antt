@@ -2,7 +2,7 @@ use Rattle.std.proofs.Common.{rules, ◌≡◌, sym, ap, ◌∙◌, Some, None}
 use Rattle.kz_turn.specs.Passes.{sitting_of, is_serving}
 use Rattle.kz_turn.proofs.Steps.{draws, looks}
 use Rattle.kz_turn.proofs.Views.{sits_is, idle_is, sitting_at, live_at, same_value}
-use Rattle.kz_turn.proofs.Stays.{waiting, in_hand, found, exchanged, entered, missed, held_is, base_is, own_is}
+use Rattle.kz_turn.proofs.Stays.{waiting, in_hand, found, in_other_order, entered, missed, held_is, base_is, own_is}
 use Rattle.kz_turn.proofs.turn.Turn.enter.Goals as goal
 
 pub fetch_add-ticket-requires : goal.fetch_add-ticket-requires
@@ -36,14 +36,14 @@ pub invariant_of-result : goal.invariant_of-result
 invariant_of-result g c =
     let it = entered g.T.Kept.base g.T.Kept.journal c.pass.inside.seat.me c.fetch_add-ticket.new.seat.me c.loop.seat.me c.load.new.seat.me c.pass.inside.live c.fetch_add-ticket.result c.load.result
     c.pass.invariant.0 c.fetch_add-ticket.ensures.2 c.loop.invariant.me c.load.ensures.2 c.if-load-ticket.true in
-    let out = exchanged c.load.new.seat.me c.exchange.new.seat.me _ (Some it.value) None it.now c.exchange.ensures.3 in
+    let out = in_other_order c.load.new.seat.me c.exchange.new.seat.me _ (Some it.value) None it.now c.exchange.ensures.3 in
     (live_at c.exchange.new.seat.me.0 _ (ap (λ m. m.0) out), tt)
 
 pub invariant_of-result-then-load-ticket : goal.invariant_of-result-then-load-ticket
 invariant_of-result-then-load-ticket g c =
     let it = entered g.T.Kept.base g.T.Kept.journal c.pass.inside.seat.me c.fetch_add-ticket.new.seat.me c.loop.seat.me c.load.new.seat.me c.pass.inside.live c.fetch_add-ticket.result c.load.result
     c.pass.invariant.0 c.fetch_add-ticket.ensures.2 c.loop.invariant.me c.load.ensures.2 c.if-load-ticket.true in
-    let out = exchanged c.load.new.seat.me c.exchange.new.seat.me _ (Some it.value) None it.now c.exchange.ensures.3 in
+    let out = in_other_order c.load.new.seat.me c.exchange.new.seat.me _ (Some it.value) None it.now c.exchange.ensures.3 in
     let sat = sitting_at c.exchange.new.seat.me.0 _ _ (ap (λ m. m.0) out) in
     (ap (λ m. m.1) out, ap (λ b. is_serving b.stage) sat, ap (λ b. b.number) sat ∙ c.pass.invariant.2)
 
@@ -51,7 +51,7 @@ pub returns-then-load-ticket-clause-held : goal.returns-then-load-ticket-clause-
 returns-then-load-ticket-clause-held g c =
     let it = entered g.T.Kept.base g.T.Kept.journal c.pass.inside.seat.me c.fetch_add-ticket.new.seat.me c.loop.seat.me c.load.new.seat.me c.pass.inside.live c.fetch_add-ticket.result c.load.result
     c.pass.invariant.0 c.fetch_add-ticket.ensures.2 c.loop.invariant.me c.load.ensures.2 c.if-load-ticket.true in
-    let out = exchanged c.load.new.seat.me c.exchange.new.seat.me _ (Some it.value) None it.now c.exchange.ensures.3 in
+    let out = in_other_order c.load.new.seat.me c.exchange.new.seat.me _ (Some it.value) None it.now c.exchange.ensures.3 in
     let value_is = same_value c.in-Some-exchange.value it.value (sym c.in-Some-exchange.is ∙ found c.load.new.seat.me _ (Some it.value) c.exchange.result it.now c.exchange.ensures.2) in
     let name : c.exchange.new.seat.table_id ≡ c.pass.inside.seat.table_id = c.exchange.ensures.0 ∙ (c.load.ensures.0 ∙ (c.loop.invariant.table ∙ c.fetch_add-ticket.ensures.0)) in
     held_is g.T.Kept.base g.T.Kept.journal c.pass.inside.seat.table_id (sitting_of c.pass.inside.seat.me.0 c.pass.inside.live) c.args.pass it.value c.in-Some-exchange.value c.pass.view_is value_is
