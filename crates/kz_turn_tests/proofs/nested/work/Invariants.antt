@@ -1,0 +1,9 @@
+use Rattle.std.proofs.Common.{◌≡◌}
+use Rattle.kz_turn_tests.proofs.nested.work.Given as goal
+
+abbrev pub invariant-loop-count : goal.invariant-loop-count
+invariant-loop-count g l = record {
+  name : l.pass.name ≡ l.fn.pass.name;
+  number : l.pass.number ≡ l.fn.pass.number;
+  base : l.pass.base ≡ l.fn.pass.base;
+}

@@ -1,0 +1,9 @@
+//! Tests of kz_turn: two threads that take turns, and a value that keeps the pass of another turn.
+#![tactic(auto)]
+
+#[cfg(test)]
+mod nested;
+#[cfg(test)]
+mod seats;
+#[cfg(test)]
+mod tally;
