@@ -40,6 +40,9 @@ pub mod RunLogs
 pub mod RunRounds
 pub mod Sequestered
 pub mod Spelling
+pub mod StayAnswers
+pub mod StayCourses
+pub mod StayRuns
 pub mod Stocks
 pub mod Undelayed
 pub mod VisitRows

@@ -35,16 +35,17 @@ all_asks asks = flat_map (λ asks. asks) asks
 pub record HasLengths (steps : List (ℕ × Step)) (c : Course) : Type 0 where
   pub asks : length c.asks ≡ length steps
   pub before : length c.before ≡ length steps
+  pub replies : length c.replies ≡ length steps
 
 pub course_lengths : (p : ZoneParams) (state : ZoneState) (steps : List (ℕ × Step)) (answers : List Answer) (c : Course) → course p state steps answers ≡ Some c → HasLengths steps c
-course_lengths p state [] answers c made = subst (HasLengths []) (same_course _ c made) (record { asks = refl; before = refl })
+course_lengths p state [] answers c made = subst (HasLengths []) (same_course _ c made) (record { asks = refl; before = refl; replies = refl })
 course_lengths p state (step ∷ steps) answers c made = by_step (alone_step p state step.0 step.1 answers) (λ o rest is. course_lengths p o.state steps o.left rest is) made
   where
     by_rest : (o : Stepped) (r : Option Course) → ((rest : Course) → r ≡ Some rest → HasLengths steps rest) → option_map_or (λ rest. Some (with_first state o rest)) r None ≡ Some c → HasLengths (step ∷ steps) c
     by_rest o None again e = absurd (cc)
     by_rest o (Some rest) again e =
         let is = again rest refl in
-        subst (HasLengths (step ∷ steps)) (same_course _ c e) (record { asks = ap (λ n. suc n) is.asks; before = ap (λ n. suc n) is.before })
+        subst (HasLengths (step ∷ steps)) (same_course _ c e) (record { asks = ap (λ n. suc n) is.asks; before = ap (λ n. suc n) is.before; replies = ap (λ n. suc n) is.replies })
 
     by_step : (o : Option Stepped) → ((o : Stepped) (rest : Course) → course p o.state steps o.left ≡ Some rest → HasLengths steps rest) → option_map_or (λ stepped. option_map_or (λ rest. Some (with_first state stepped rest)) (course p stepped.state steps stepped.left) None) o None ≡ Some c → HasLengths (step ∷ steps) c
     by_step None again e = absurd (cc)

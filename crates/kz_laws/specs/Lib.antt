@@ -11,3 +11,5 @@ pub mod PlayLaws
 pub mod Isolation
 pub mod Reports
 pub mod Worlds
+pub mod Stays
+pub mod StayLaws

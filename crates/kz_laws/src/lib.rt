@@ -9,6 +9,7 @@
 #![tactic(auto)]
 
 mod laws;
+mod stays;
 
 pub use laws::{
     a_report_names_its_run, addresses_are_sequestered, agreement_decides,
@@ -16,3 +17,4 @@ pub use laws::{
     orders_are_played, orders_make_runs, runs_keep_zones_apart, runs_that_agree_are_alike,
     steps_without_a_visit_are_local,
 };
+pub use stays::{Stay, stays_answer, stays_make_courses, stays_make_runs};
