@@ -123,7 +123,7 @@ others-append : (cpu : ℕ) (xs ys : List (ℕ × Step)) → AreOfOthers cpu xs 
 others-append cpu [] ys here there = there
 others-append cpu (x ∷ xs) ys here there = (here.0, others-append cpu xs ys here.1 there)
 
-others-map : (cpu other : ℕ) (steps : List Step) → other ≢ cpu → AreOfOthers cpu (map (λ step. (other, step)) steps)
+pub others-map : (cpu other : ℕ) (steps : List Step) → other ≢ cpu → AreOfOthers cpu (map (λ step. (other, step)) steps)
 others-map cpu other [] ne = tt
 others-map cpu other (step ∷ steps) ne = (ne, others-map cpu other steps ne)
 

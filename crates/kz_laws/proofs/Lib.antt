@@ -42,6 +42,7 @@ pub mod Sequestered
 pub mod Spelling
 pub mod StayAnswers
 pub mod StayCourses
+pub mod StayParts
 pub mod StayRuns
 pub mod Stocks
 pub mod Undelayed

@@ -7,6 +7,7 @@ use Rattle.kz_model.specs.declared.record.Plan.{Plan}
 use Rattle.kz_model.specs.declared.record.Visit.{Visit}
 use Rattle.kz_model.specs.declared.bundle.TraceStep.{TraceStep}
 use Rattle.kz_model.specs.declared.step.Reply.{Reply}
+use Rattle.kz_model.specs.declared.step.Step.{Step}
 use Rattle.kz_model.specs.declared.record.ZoneParams.{ZoneParams}
 use Rattle.kz_model.specs.declared.supply.SupplyEntry.{SupplyEntry}
 use Rattle.kz_model.specs.Text.Report.{answered_lines}
@@ -14,10 +15,10 @@ use Rattle.kz_model.specs.Run.Recorded.{zone_mapped}
 use Rattle.kz_model.specs.Run.Supply.{supply_answers}
 use Rattle.kz_model.specs.Run.Journal.{params_of, steps_of, log_at, addressed, lines_of_round}
 use Rattle.kz_model.specs.Run.Runs.{IsRun, needs_along, Carries, SettlesLast, ask_rounds, rounds_at}
-use Rattle.kz_model.specs.Zone.State.{ZoneState, opening}
+use Rattle.kz_model.specs.Zone.State.{ZoneState, opening, cpu_part}
 use Rattle.kz_model.specs.Zone.Alone.{Course, course}
 use Rattle.kz_laws.specs.declared.stays.Stay.{Stay}
-use Rattle.kz_laws.specs.Stays.{AreStays, visits_in, steps_in, entries_in, asks_in, answers_in, rounds_in, steps_made_by, replies_in, replies_made_to}
+use Rattle.kz_laws.specs.Stays.{AreStays, HaveSteps, stays_told, part_left, stays_by, visits_in, steps_in, entries_in, asks_in, answers_in, rounds_in, steps_made_by, replies_in, replies_made_to}
 
 -- The course of all steps of stays: it ends where the stays end, its asks are theirs, and its steps need visits as they
 -- say.
@@ -31,9 +32,22 @@ pub record IsCourseOf (p : ZoneParams) (state : ZoneState) (stays : List Stay) (
   pub carries : Carries (visits_in stays) (needs_along p (steps_in stays) made.before)
   pub asked_in_round : ask_rounds (visits_in stays) made.asks ≡ rounds_in stays
 
+-- Stays one after the other make such a course.
 abbrev pub StaysMakeCourses : Type 0
 StaysMakeCourses = (p : ZoneParams) (state end : ZoneState) (stays : List Stay) → AreStays p state stays end →
     (made : Course) × IsCourseOf p state stays end made
+
+-- What a CPU has after stays is what its own last one left it.
+abbrev pub StaysLeaveParts : Type 0
+StaysLeaveParts = (p : ZoneParams) (state end : ZoneState) (cpu : ℕ) (stays : List Stay) → AreStays p state stays end →
+    cpu_part end cpu ≡ part_left (cpu_part state cpu) (stays_by cpu stays)
+
+-- Visits and entries tell the stays that made them.
+abbrev pub VisitsTellStays : Type 0
+VisitsTellStays =
+    (p : ZoneParams) (steps : List Visit → Visit → List Step) (state end : ZoneState) (earlier : List Visit)
+    (stays : List Stay) → AreStays p state stays end → HaveSteps steps earlier stays →
+    stays_told p steps state earlier (visits_in stays) (entries_in stays) ≡ stays
 
 -- ---- the run that stays make
 

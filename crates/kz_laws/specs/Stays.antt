@@ -1,6 +1,7 @@
 -- Stays of CPUs in a zone: each is a visit with its steps and with what the zone asked meanwhile.
-use Rattle.std.specs.Prelude.{◌≡◌, ℕ, ◌≤◌, ◌&&◌, ◌==◌, if◌then◌else◌, List, [], ◌∷◌, ◌++◌, length, map, replicate, Some}
-use Rattle.std.specs.List.{flat_map}
+use Rattle.std.specs.Prelude.{◌≡◌, ℕ, ◌-◌, ◌≤◌, ◌&&◌, ◌==◌, if◌then◌else◌, List, [], ◌∷◌, ◌++◌, length, take, drop, map, replicate, Some}
+use Rattle.std.specs.List.{flat_map, filter}
+use Rattle.std.specs.Option.{option_map_or}
 use Rattle.kz_model.specs.declared.step.Reply.{Reply}
 use Rattle.kz_model.specs.declared.step.Step.{Step}
 use Rattle.kz_model.specs.declared.record.Visit.{Visit}
@@ -8,7 +9,7 @@ use Rattle.kz_model.specs.declared.record.ZoneParams.{ZoneParams}
 use Rattle.kz_model.specs.declared.supply.SupplyEntry.{SupplyEntry}
 use Rattle.kz_model.specs.declared.supply.Ask.{Ask}
 use Rattle.kz_model.specs.declared.supply.Answer.{Answer}
-use Rattle.kz_model.specs.Zone.State.{ZoneState}
+use Rattle.kz_model.specs.Zone.State.{CpuPart, ZoneState, cpu_part}
 use Rattle.kz_model.specs.Zone.Alone.{Course, course}
 use Rattle.kz_model.specs.Zone.Late.{by_cpu}
 use Rattle.kz_model.specs.Run.Runs.{needs_along, needs_within}
@@ -56,6 +57,19 @@ replies_made_to cpu round [] = []
 replies_made_to cpu round (s ∷ stays) =
     (if (s.cpu == cpu) && (s.round == round) then s.replies else []) ++ replies_made_to cpu round stays
 
+-- ---- what a CPU has
+
+abbrev pub part_left_by : Stay → CpuPart
+part_left_by s = record { stack = s.stack; names = s.names }
+
+-- after stays of its own, the first of which began from this
+abbrev pub part_left : CpuPart → List Stay → CpuPart
+part_left own [] = own
+part_left own (s ∷ stays) = part_left (part_left_by s) stays
+
+abbrev pub stays_by : ℕ → List Stay → List Stay
+stays_by cpu stays = filter (λ s. s.cpu == cpu) stays
+
 -- ---- stays one after the other
 
 -- The zone alone does the stay's steps from this state, with the answers that it got, to its asks. In a visit the last
@@ -66,9 +80,41 @@ pub record IsStay (p : ZoneParams) (before : ZoneState) (s : Stay) (made : Cours
   pub used : made.left ≡ []
   pub replied : made.replies ≡ s.replies
   pub asked : flat_map (λ asks. asks) made.asks ≡ asks_in s.entries
+  pub left : cpu_part made.end s.cpu ≡ part_left_by s
   pub needs : needs_along p (steps_in_stay s) made.before ≡ needs_within (visit_in s)
 
 -- The stays lead from one state of the zone to the other.
 abbrev pub AreStays : ZoneParams → ZoneState → List Stay → ZoneState → Type 0
 AreStays p state [] end = state ≡ end
 AreStays p state (s ∷ stays) end = (made : Course) × IsStay p state s made × AreStays p made.end stays end
+
+-- ---- the stays that visits and entries tell
+
+-- a visit of these steps, with this course, the first of these entries being its own
+abbrev pub stay_told : Visit → List Step → List SupplyEntry → Course → Stay
+stay_told v steps entries made =
+    record {
+      round = v.round;
+      cpu = v.cpu;
+      steps = steps;
+      replies = made.replies;
+      settled = v.settled;
+      entries = take (length entries - length made.left) entries;
+      stack = (cpu_part made.end v.cpu).stack;
+      names = (cpu_part made.end v.cpu).names;
+    }
+
+-- the stays of these visits after the earlier ones, where each visit's steps are a function of those before it
+abbrev pub stays_told : ZoneParams → (List Visit → Visit → List Step) → ZoneState → List Visit → List Visit →
+    List SupplyEntry → List Stay
+stays_told p steps state earlier [] entries = []
+stays_told p steps state earlier (v ∷ visits) entries =
+    option_map_or (λ made. stay_told v (steps earlier v) entries made
+    ∷ stays_told p steps made.end (earlier ++ v ∷ []) visits (drop (length entries - length made.left) entries))
+    (course p state (by_cpu v.cpu (steps earlier v)) (answers_in entries)) []
+
+-- these stays are of such steps
+abbrev pub HaveSteps : (List Visit → Visit → List Step) → List Visit → List Stay → Type 0
+HaveSteps steps earlier [] = Unit {0}
+HaveSteps steps earlier (s ∷ stays) =
+    (steps earlier (visit_in s) ≡ s.steps) × HaveSteps steps (earlier ++ visit_in s ∷ []) stays

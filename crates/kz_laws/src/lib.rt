@@ -17,4 +17,6 @@ pub use laws::{
     orders_are_played, orders_make_runs, runs_keep_zones_apart, runs_that_agree_are_alike,
     steps_without_a_visit_are_local,
 };
-pub use stays::{Stay, stays_answer, stays_make_courses, stays_make_runs};
+pub use stays::{
+    Stay, stays_answer, stays_leave_parts, stays_make_courses, stays_make_runs, visits_tell_stays,
+};

@@ -1,7 +1,7 @@
 //! Stays of CPUs in zones: what one who holds a zone's turn leaves behind, and the run that all stays make.
-ghost use Rattle.kz_laws.specs.StayLaws.{StaysMakeCourses, StaysMakeRuns, StaysAnswer};
+ghost use Rattle.kz_laws.specs.StayLaws.{StaysMakeCourses, StaysMakeRuns, StaysAnswer, StaysLeaveParts, VisitsTellStays};
 
-use kz_model::{Reply, Step, SupplyEntry};
+use kz_model::{Block, Bound, Reply, Step, SupplyEntry};
 use std::collections::LinkedList;
 
 /// A CPU's stay in a zone. It stands in proofs alone: no value of it is made.
@@ -15,6 +15,10 @@ pub struct Stay {
     pub settled: bool,
     /// What the zone asked of the supply meanwhile.
     pub entries: LinkedList<SupplyEntry>,
+    /// The CPU's stack after it, the oldest block first.
+    pub stack: LinkedList<Block>,
+    /// The CPU's names after it, with what each is bound to.
+    pub names: LinkedList<(u32, Bound)>,
 }
 
 /// Stays one after the other are the zone alone over their steps.
@@ -30,4 +34,14 @@ pub fn stays_make_runs()
 /// What a CPU's stays were answered, round by round, is what the report says of its lines.
 pub fn stays_answer()
     ensures { StaysAnswer }
+{}
+
+/// What a CPU has after stays is what its own last one left it.
+pub fn stays_leave_parts()
+    ensures { StaysLeaveParts }
+{}
+
+/// Visits and entries tell the stays that made them.
+pub fn visits_tell_stays()
+    ensures { VisitsTellStays }
 {}
