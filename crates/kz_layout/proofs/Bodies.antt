@@ -28,7 +28,7 @@ align_cases a is = elim (or_cases _ (nat_eq a 8) is) [
   ]
 ]
 
-by_align : (P : ℕ → Type 0) → P 1 → P 2 → P 4 → P 8 → (a : ℕ) → IsTrue (is_align a) → P a
+pub by_align : (P : ℕ → Type 0) → P 1 → P 2 → P 4 → P 8 → (a : ℕ) → IsTrue (is_align a) → P a
 by_align P one two four eight a is = elim (align_cases a is) [
   | inl same ↦ subst P (sym same) one
   | inr more ↦ elim more [
@@ -47,7 +47,7 @@ IsMultiple a n = (times : ℕ) × (1 ≤ times) × (n ≡ a * times)
 multiple : (a times n : ℕ) → 1 ≤ times → n ≡ a * times → IsMultiple a n
 multiple a times n some is = (times, some, is)
 
-positive : (a : ℕ) → IsTrue (is_align a) → 1 ≤ a
+pub positive : (a : ℕ) → IsTrue (is_align a) → 1 ≤ a
 positive a is = by_align (λ n. 1 ≤ n) (omega arith) (omega arith) (omega arith) (omega arith) a is
 
 at_most_8 : (a : ℕ) → IsTrue (is_align a) → a ≤ 8
@@ -57,13 +57,13 @@ eight_is_multiple : (a : ℕ) → IsTrue (is_align a) → IsMultiple a 8
 eight_is_multiple a is =
     by_align (λ n. IsMultiple n 8) (multiple 1 8 8 (omega arith) refl) (multiple 2 4 8 (omega arith) refl) (multiple 4 2 8 (omega arith) refl) (multiple 8 1 8 (omega arith) refl) a is
 
-max_is_align : (a b : ℕ) → IsTrue (is_align a) → IsTrue (is_align b) → IsTrue (is_align (max a b))
+pub max_is_align : (a b : ℕ) → IsTrue (is_align a) → IsTrue (is_align b) → IsTrue (is_align (max a b))
 max_is_align a b is also = elim (cases_lt a b) [
   | inl lt ↦ let same : b ≡ max a b = omega arith in subst (λ n. IsTrue (is_align n)) same also
   | inr le ↦ let same : a ≡ max a b = omega arith in subst (λ n. IsTrue (is_align n)) same is
 ]
 
-max_is_multiple : (a b : ℕ) → IsTrue (is_align a) → IsTrue (is_align b) → IsMultiple a (max a b)
+pub max_is_multiple : (a b : ℕ) → IsTrue (is_align a) → IsTrue (is_align b) → IsMultiple a (max a b)
 max_is_multiple a b is also =
     by_align (λ n. IsMultiple n (max n b))
     (by_align (λ m. IsMultiple 1 (max 1 m)) (multiple 1 1 1 (omega arith) refl) (multiple 1 2 2 (omega arith) refl) (multiple 1 4 4 (omega arith) refl) (multiple 1 8 8 (omega arith) refl) b also)

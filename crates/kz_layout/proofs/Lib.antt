@@ -3,3 +3,6 @@ mod Tables
 mod Walks
 mod Unions
 mod Bodies
+mod PlacedFields
+mod FieldWalks
+mod FieldTypes

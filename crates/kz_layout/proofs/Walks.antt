@@ -95,7 +95,7 @@ as_many_one : (at : ℕ) (first : Result Covered LayoutCause) (rest : Covered �
 as_many_one at (Ok m) rest covers P step laid = step m laid
 as_many_one at (Err cause) rest covers P step laid = cc
 
-as_many : (types : Types) (decls : List TypeDecl) (covers : List Covered) → types_from types decls ≡ Ok covers → length covers ≡ length types.earlier + length decls
+pub as_many : (types : Types) (decls : List TypeDecl) (covers : List Covered) → types_from types decls ≡ Ok covers → length covers ≡ length types.earlier + length decls
 as_many types [] covers laid = let same : types.earlier ≡ covers = cc in omega (arith, ap length same)
 as_many types (decl ∷ decls) covers laid =
     as_many_one (length types.earlier) (type_cover types decl) (λ m. types_from (with_earlier types m) decls) covers (length covers ≡ length types.earlier + length (decl ∷ decls))

@@ -3,3 +3,5 @@ pub mod Tables
 pub mod Shown
 pub mod Granules
 pub mod Laid
+pub mod FieldPlaces
+pub mod FieldLaws

@@ -10,6 +10,7 @@
 
 mod body;
 mod braces;
+mod laws;
 mod layouter;
 mod letters;
 mod over;
@@ -17,6 +18,7 @@ mod places;
 mod types;
 
 pub use kz_model::{LayoutCause, LayoutFault};
+pub use laws::fields_are_placed;
 pub use layouter::Layouter;
 pub use places::Places;
 pub use types::layouts;

@@ -1,0 +1,9 @@
+//! Laws of the layouts, each the contract of a function that does nothing.
+ghost use Rattle.kz_layout.specs.FieldLaws.{FieldsArePlaced};
+
+/// In a layout each field, and each of its elements, is at a multiple of its alignment; the fields of a struct stand
+/// one after the other and those of a union at its start; all end within the size, which is a multiple of the
+/// alignment.
+pub fn fields_are_placed()
+    ensures { FieldsArePlaced }
+{}
