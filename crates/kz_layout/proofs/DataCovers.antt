@@ -2,7 +2,7 @@
 use Rattle.std.proofs.Common.{◌≡◌, ℕ, zero, suc, ◌+◌, ◌*◌, ◌/◌, ◌≤◌, ◌<◌, ◌==◌, ◌&&◌, ◌||◌, Bool, true, false, List, [], ◌∷◌, ◌++◌, length, replicate, take, drop, map, codes, refl, sym, ap, ◌∙◌, arith, inl, inr}
 use Rattle.std.specs.Int.Bits.{bit_or}
 use Rattle.std.specs.List.{list_all, repeat, range_with_len}
-use Rattle.std.proofs.Math.Bool.{and-true}
+use Rattle.std.proofs.Math.Bool.{and-true, and-false, and_self}
 use Rattle.std.proofs.Math.Seq.{take-add}
 use Rattle.std.proofs.lemmas.Bool.{cases_lt, ne_eqb}
 use Rattle.std.proofs.lemmas.List.{drop-drop, take_all, get_or_past}
@@ -29,17 +29,13 @@ up_to_2 P none one two (suc zero) lt = one
 up_to_2 P none one two (suc (suc zero)) lt = two
 up_to_2 P none one two (suc (suc (suc n))) lt = absurd (omega arith)
 
-and-false : (b : Bool) → false ≡ (b && false)
-and-false true = refl
-and-false false = refl
-
 is_data-or : (a b : ℕ) → is_data (bit_or a b) ≡ (is_data a && is_data b)
 is_data-or a b = elim (cases_lt a 3) [
   | inr past ↦
       past_data (bit_or a b) (omega (arith, le_or_l a b)) ∙ ap (λ t. t && is_data b) (sym (past_data a past))
   | inl low ↦ elim (cases_lt b 3) [
     | inr past ↦
-        past_data (bit_or a b) (omega (arith, le_or_r a b)) ∙ and-false (is_data a) ∙ ap (λ t. is_data a && t) (sym (past_data b past))
+        past_data (bit_or a b) (omega (arith, le_or_r a b)) ∙ sym (and-false (is_data a)) ∙ ap (λ t. is_data a && t) (sym (past_data b past))
     | inl also ↦
         let R : ℕ → ℕ → Type 0 = λ m n. is_data (bit_or m n) ≡ (is_data m && is_data n) in
         up_to_2 (λ m. R m b) (up_to_2 (R 0) refl refl refl b also) (up_to_2 (R 1) refl refl refl b also) (up_to_2 (R 2) refl refl refl b also) a low
@@ -91,14 +87,10 @@ pub all_data-bytes : (n : ℕ) → all_data (replicate n «data») ≡ true
 all_data-bytes zero = refl
 all_data-bytes (suc n) = all_data-bytes n
 
-and-self : (b : Bool) → (b && b) ≡ b
-and-self true = refl
-and-self false = refl
-
 all_data-repeat : (n : ℕ) (xs : List ℕ) → all_data (repeat (suc n) xs) ≡ all_data xs
 all_data-repeat zero xs = list_all-append is_data xs [] ∙ and-true (all_data xs)
 all_data-repeat (suc n) xs =
-    list_all-append is_data xs (repeat (suc n) xs) ∙ ap (λ t. all_data xs && t) (all_data-repeat n xs) ∙ and-self (all_data xs)
+    list_all-append is_data xs (repeat (suc n) xs) ∙ ap (λ t. all_data xs && t) (all_data-repeat n xs) ∙ and_self (all_data xs)
 
 copies_are_data : (offset n : ℕ) (xs : List ℕ) → 1 ≤ n → all_data (at_offset offset n xs) ≡ all_data xs
 copies_are_data offset zero xs some = absurd (omega arith)

@@ -1,5 +1,6 @@
 -- What the fields of some braces cover is data alone exactly where none of them holds a pointer.
 use Rattle.std.proofs.Common.{◌≡◌, ◌⊎◌, inl, inr, ℕ, zero, suc, ◌+◌, ◌*◌, ◌≤◌, ◌==◌, ◌&&◌, ◌||◌, Bool, true, false, not, List, [], ◌∷◌, length, map, replicate, max, refl, sym, ap, ◌∙◌, subst, arith, Option, Some, Ok, slice_get, All}
+use Rattle.std.proofs.Math.Bool.{or_assoc, or-false, not-not}
 use Rattle.std.proofs.Math.Nat.{mul-le-mul}
 use Rattle.std.proofs.lemmas.List.{length-replicate}
 use Rattle.std.proofs.lemmas.List.Elements.{All-head, All-tail, All-get_or}
@@ -9,14 +10,14 @@ use Rattle.kz_model.specs.declared.bundle.Kind.TheVariants.{Ptr, Auth, U8, U16, 
 use Rattle.kz_model.specs.declared.bundle.Field.{Field}
 use Rattle.kz_model.specs.declared.bundle.TypeDecl.{TypeDecl}
 use Rattle.kz_model.specs.declared.record.Layout.{Layout}
-use Rattle.kz_model.specs.declared.layout.LayoutCause.TheVariants.{SameName, Empty}
+use Rattle.kz_model.specs.declared.layout.LayoutCause.TheVariants.{Empty}
 use Rattle.kz_model.specs.Types.Cover.{Covered, over, pointer, «data», authenticated, plain, placed, rounded, round_up, at_offset, layout_of}
-use Rattle.kz_model.specs.Types.Layouts.{Types, Text, Inside, no_fields, then_do, place_of, is_earlier, declared_one, whole, own_cover, offset_of, one_field, inner_of, row_of, fields_from, type_cover, names_of, IsSoundKind, AreSound, IsSoundField}
+use Rattle.kz_model.specs.Types.Layouts.{Types, Text, Inside, no_fields, then_do, place_of, declared_one, whole, own_cover, offset_of, one_field, inner_of, row_of, fields_from, type_cover, names_of, IsSoundKind, AreSound, IsSoundField}
 use Rattle.kz_layout.specs.PointerLaws.{declared_holds_pointer, layout_holds_pointer, holds_pointer, row_holds_pointer, fields_hold_pointer, IsToldBy, DataHoldsNoPointer}
 use Rattle.kz_layout.proofs.Overs.{length-over, length-at_offset, le-round_up}
 use Rattle.kz_layout.proofs.DataCovers.{all_data, all_data-bytes, all_data-placed, all_data-rounded, layout_is_data}
 use Rattle.kz_layout.proofs.FieldWalks.{then_do_ok, else_ok, IsOneMore, one_field_ok, ok_plain, whole_ok, declared_ok}
-use Rattle.kz_layout.proofs.TypeWalks.{AreAmong, EachFits, layout_at, each_type}
+use Rattle.kz_layout.proofs.TypeWalks.{AreAmong, EachFits, layout_at, type_ok, each_type}
 
 -- a cover of its size, whose bytes are of data alone exactly where this is false
 record IsTold (m : Covered) (holds : Bool) : Type 0 where
@@ -40,18 +41,6 @@ no_fields-told = record { some = inl refl; told = record { long = refl; aligned 
 either : (a b : Bool) → (not a && not b) ≡ not (a || b)
 either true b = refl
 either false b = refl
-
-or_assoc : (a b c : Bool) → ((a || b) || c) ≡ (a || (b || c))
-or_assoc true b c = refl
-or_assoc false b c = refl
-
-or-false : (a : Bool) → (a || false) ≡ a
-or-false true = refl
-or-false false = refl
-
-not-not : (a : Bool) → a ≡ not (not a)
-not-not true = refl
-not-not false = refl
 
 -- one more field
 more_told : (offset count : ℕ) (so_far more : Inside) (m : Covered) (a b : Bool) → 1 ≤ count → IsTold so_far.body a → IsSomeTold m b →
@@ -169,13 +158,12 @@ type_told : (types : Types) (decl : TypeDecl) (covers : List Covered) (m : Cover
     AreAmong types.earlier covers → type_cover types decl ≡ Ok m → IsToldAmong types.names covers decl m × IsTypeTold m
 type_told types decl covers m sound fit stay is =
     let layouts = map layout_of covers in
-    let new = else_ok (is_earlier (length types.earlier) (place_of decl.name types.names)) SameName (then_do (fields_from types false no_fields decl.fields) whole) m is in
-    let fields = then_do_ok (fields_from types false no_fields decl.fields) whole m new.1 in
+    let fields = type_ok types decl m is in
     let inside = fields_told types layouts (λ place n there. (layout_at covers place n (stay place n there), fit place n there))
     decl.fields no_fields fields.0 false sound no_fields-told fields.1 in
     let all = whole_told fields.0 m (fields_hold_pointer types.names layouts decl.fields) inside fields.2 in (
       record { some = all.some; only = layout_is_data m all.told.long ∙ all.told.only },
-      record { some = all.some; told = record { long = all.told.long; aligned = all.told.aligned; only = not-not (all_data m.cover) } },
+      record { some = all.some; told = record { long = all.told.long; aligned = all.told.aligned; only = sym (not-not (all_data m.cover)) } },
     )
 
 -- a declaration among those that are in range

@@ -1,17 +1,16 @@
 -- The layouts of declarations are those of their fields at their places.
-use Rattle.std.proofs.Common.{◌≡◌, false, List, [], length, map, refl, sym, ap, ◌∙◌, subst, arith, Ok}
+use Rattle.std.proofs.Common.{◌≡◌, List, [], length, map, refl, sym, ap, ◌∙◌, subst, arith, Ok}
 use Rattle.std.proofs.lemmas.List.{length-map}
 use Rattle.kz_model.specs.declared.bundle.TypeDecl.{TypeDecl}
-use Rattle.kz_model.specs.declared.layout.LayoutCause.TheVariants.{SameName}
 use Rattle.kz_model.specs.Types.Cover.{Covered, layout_of}
-use Rattle.kz_model.specs.Types.Layouts.{Types, Text, no_fields, then_do, fields_from, whole, place_of, is_earlier, type_cover, names_of}
+use Rattle.kz_model.specs.Types.Layouts.{Types, Text, no_fields, type_cover, names_of}
 use Rattle.kz_layout.specs.Shown.{types_at}
 use Rattle.kz_layout.specs.FieldPlaces.{struct_places}
 use Rattle.kz_layout.specs.FieldLaws.{IsLayoutOf, FieldsArePlaced}
 use Rattle.kz_layout.proofs.Walks.{as_many}
 use Rattle.kz_layout.proofs.PlacedFields.{IsEven, rising_apart}
-use Rattle.kz_layout.proofs.FieldWalks.{then_do_ok, else_ok, cover_extent, fields_are, over_all}
-use Rattle.kz_layout.proofs.TypeWalks.{AreAmong, EachFits, layout_at, each_type}
+use Rattle.kz_layout.proofs.FieldWalks.{cover_extent, fields_are, over_all}
+use Rattle.kz_layout.proofs.TypeWalks.{AreAmong, EachFits, layout_at, type_ok, each_type}
 
 abbrev IsSoundDecl : TypeDecl → Type 0
 IsSoundDecl decl = Unit {0}
@@ -26,8 +25,7 @@ one_type : (types : Types) (decl : TypeDecl) (covers : List Covered) (m : Covere
     AreAmong types.earlier covers → type_cover types decl ≡ Ok m → IsLayoutAmong types.names covers decl m × IsEvenCover m
 one_type types decl covers m sound even stay is =
     let layouts = map layout_of covers in
-    let new = else_ok (is_earlier (length types.earlier) (place_of decl.name types.names)) SameName (then_do (fields_from types false no_fields decl.fields) whole) m is in
-    let fields = then_do_ok (fields_from types false no_fields decl.fields) whole m new.1 in
+    let fields = type_ok types decl m is in
     let are = fields_are types layouts (λ place n there. (layout_at covers place n (stay place n there), even place n there))
     decl.fields 0 no_fields fields.0 refl (omega arith) fields.1 in
     let over = over_all (struct_places types.names layouts decl.fields) fields.0 m are.grows fields.2 in (

@@ -1,14 +1,15 @@
 -- What holds of each declaration's cover, where it follows from what holds of the covers of earlier ones.
-use Rattle.std.proofs.Common.{◌≡◌, ◌⊎◌, inl, inr, ℕ, zero, suc, ◌+◌, List, [], ◌∷◌, ◌++◌, length, map, refl, sym, ap, ◌∙◌, subst, arith, Some, Result, Ok, Err, slice_get, option_map}
+use Rattle.std.proofs.Common.{◌≡◌, ◌⊎◌, inl, inr, ℕ, zero, suc, ◌+◌, false, List, [], ◌∷◌, ◌++◌, length, map, refl, sym, ap, ◌∙◌, subst, arith, Some, Result, Ok, Err, slice_get, option_map}
 use Rattle.std.proofs.lemmas.List.{length-append}
 use Rattle.std.proofs.lemmas.Option.{slice_get-map}
 use Rattle.kz_model.specs.declared.bundle.TypeDecl.{TypeDecl}
 use Rattle.kz_model.specs.declared.record.Layout.{Layout}
 use Rattle.kz_model.specs.declared.layout.LayoutCause.{LayoutCause}
+use Rattle.kz_model.specs.declared.layout.LayoutCause.TheVariants.{SameName}
 use Rattle.kz_model.specs.Types.Cover.{Covered, layout_of}
-use Rattle.kz_model.specs.Types.Layouts.{Types, Text, type_cover, found_at, with_earlier, types_from, names_of, all_layouts, layouts_of}
+use Rattle.kz_model.specs.Types.Layouts.{Inside, no_fields, then_do, fields_from, whole, place_of, is_earlier, Types, Text, type_cover, found_at, with_earlier, types_from, names_of, all_layouts, layouts_of}
 use Rattle.kz_layout.specs.Shown.{types_at}
-use Rattle.kz_layout.proofs.FieldWalks.{then_do_ok}
+use Rattle.kz_layout.proofs.FieldWalks.{then_do_ok, else_ok}
 
 -- ---- lists
 
@@ -29,6 +30,13 @@ module _ {X : Type 0} where
   front_or_last (z ∷ xs) x y (suc i) is = front_or_last xs x y i is
 
 -- ---- declarations
+
+-- the fields of a declaration, as a whole
+pub type_ok : (types : Types) (decl : TypeDecl) (m : Covered) → type_cover types decl ≡ Ok m →
+    (inside : Inside) × (fields_from types false no_fields decl.fields ≡ Ok inside) × (whole inside ≡ Ok m)
+type_ok types decl m is =
+    let new = else_ok (is_earlier (length types.earlier) (place_of decl.name types.names)) SameName (then_do (fields_from types false no_fields decl.fields) whole) m is in
+    then_do_ok (fields_from types false no_fields decl.fields) whole m new.1
 
 found_ok : (at : ℕ) (first : Result Covered LayoutCause) (m : Covered) → found_at at first ≡ Ok m → first ≡ Ok m
 found_ok at (Ok n) m is = let same : n ≡ m = cc in ap (λ x. Ok x) same
