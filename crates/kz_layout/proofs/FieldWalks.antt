@@ -49,7 +49,7 @@ placed_ok offset count before m after is =
     let same = parts.1 in
     record { fits = within (offset + count * m.size) parts.0; is = cc }
 
-one_field_ok : (types : Types) (in_union : Bool) (so_far : Inside) (kind : Kind) (name : Text) (count : ℕ) (inner more : Inside) →
+pub one_field_ok : (types : Types) (in_union : Bool) (so_far : Inside) (kind : Kind) (name : Text) (count : ℕ) (inner more : Inside) →
     one_field types in_union so_far kind name count inner ≡ Ok more →
     (m : Covered) × (own_cover types inner kind ≡ Ok m) × IsOneMore (offset_of in_union so_far.body m) count so_far.body m more.body
 one_field_ok types in_union so_far kind name count inner more is =
@@ -63,6 +63,15 @@ one_field_ok types in_union so_far kind name count inner more is =
       subst (λ after. IsOneMore (offset_of in_union so_far.body own.0) count so_far.body own.0 after) same
           (placed_ok (offset_of in_union so_far.body own.0) count so_far.body own.0 body.0 own.2),
     )
+
+earlier_one_ok : (found : Option Covered) (m : Covered) → earlier_one found ≡ Ok m → found ≡ Some m
+earlier_one_ok (Some n) m is = let same : n ≡ m = cc in ap (λ x. Some x) same
+earlier_one_ok None m is = cc
+
+pub declared_ok : (earlier : List Covered) (place : Option ℕ) (m : Covered) → declared_one earlier place ≡ Ok m →
+    (at : ℕ) × (place ≡ Some at) × (slice_get earlier at ≡ Some m)
+declared_ok earlier None m is = cc
+declared_ok earlier (Some at) m is = (at, refl, earlier_one_ok (slice_get earlier at) m is)
 
 -- ---- sizes and alignments of covers
 
@@ -95,7 +104,7 @@ grows_one fields offset count e before m more after same even at one rest =
     record {
       size = omega (arith, rest.size, size, end);
       align = omega (arith, rest.align, align, wide);
-      even = All-cons IsEvenPlace (field_place offset count e) fields (record { element = even; begins = at }) rest.even;
+      even = All-cons IsEvenPlace (field_place offset count e) fields (record { item = even; begins = at }) rest.even;
       few = omega (arith, rest.few, one.fits, end);
     }
 
@@ -120,7 +129,7 @@ over_all fields inside m grows is =
 
 -- ---- kinds
 
-abbrev ok_plain : ℕ → ℕ → ℕ → Result Covered LayoutCause
+abbrev pub ok_plain : ℕ → ℕ → ℕ → Result Covered LayoutCause
 ok_plain size align code = Ok (plain size align code)
 
 is_plain : (size align code : ℕ) (m : Covered) → ok_plain size align code ≡ Ok m → cover_extent m ≡ extent size align
@@ -139,15 +148,11 @@ module _ (types : Types) (layouts : List Layout)
     pub grows : GrowsOver (union_places types.names layouts row) before after
     pub unions : AreRowUnionsPlaced types.names layouts row
 
-  is_earlier_one : (place : ℕ) (found : Option Covered) (m : Covered) → slice_get types.earlier place ≡ found → earlier_one found ≡ Ok m → slice_get types.earlier place ≡ Some m
-  is_earlier_one place (Some n) m there is = let same : n ≡ m = cc in there ∙ ap (λ x. Some x) same
-  is_earlier_one place None m there is = cc
-
   is_declared : (place : Option ℕ) (m : Covered) → declared_one types.earlier place ≡ Ok m → (cover_extent m ≡ declared_extent layouts place) × IsEven (cover_extent m)
-  is_declared None m is = cc
-  is_declared (Some place) m is =
-      let there = known place m (is_earlier_one place (slice_get types.earlier place) m refl is) in
-      (sym (ap found_extent there.0), there.1)
+  is_declared place m is =
+      let found = declared_ok types.earlier place m is in
+      let there = known found.0 m found.2 in
+      (sym (ap (declared_extent layouts) found.1 ∙ ap found_extent there.0), there.1)
 
   mutual
     own_is : (kind : Kind) (inner : Inside) (m : Covered) → inner_of types kind ≡ Ok inner → own_cover types inner kind ≡ Ok m → IsOwn kind m

@@ -6,3 +6,6 @@ mod Bodies
 mod PlacedFields
 mod FieldWalks
 mod FieldTypes
+mod TypeWalks
+mod DataWalks
+mod DataCovers

@@ -1,5 +1,5 @@
 -- Places of fields that are at multiples of their alignments.
-use Rattle.std.proofs.Common.{◌≡◌, ℕ, zero, suc, ◌+◌, ◌-◌, ◌*◌, ◌/◌, ◌%◌, ◌≤◌, ◌<◌, IsTrue, List, [], ◌∷◌, refl, ap, ◌∙◌, subst, arith, Some, slice_get, All}
+use Rattle.std.proofs.Common.{◌≡◌, ℕ, zero, suc, ◌+◌, ◌-◌, ◌*◌, ◌/◌, ◌%◌, ◌≤◌, ◌<◌, IsTrue, List, [], ◌∷◌, refl, sym, ap, ◌∙◌, subst, arith, Some, slice_get, All}
 use Rattle.std.proofs.Math.Nat.{mul_comm, mul-mod_left}
 use Rattle.std.proofs.lemmas.List.Elements.{All-nil, All-cons, All-head, All-tail}
 use Rattle.kz_model.specs.Types.Cover.{round_up}
@@ -16,20 +16,33 @@ pub record IsEven (e : Extent) : Type 0 where
 
 -- and a field at such a multiple
 pub record IsEvenPlace (f : FieldPlace) : Type 0 where
-  pub element : IsEven f.element
-  pub begins : f.offset % f.element.align ≡ 0
+  pub item : IsEven f.item
+  pub begins : f.offset % f.item.align ≡ 0
 
 -- ---- multiples
 
 pub mod-multiple : (a n : ℕ) → a * n % a ≡ 0
 mod-multiple a n = ap (λ k. k % a) (mul_comm a n) ∙ mul-mod_left n a
 
-elements_even : (a offset size k : ℕ) → 1 ≤ a → offset % a ≡ 0 → size % a ≡ 0 → (offset + k * size) % a ≡ 0
-elements_even a offset size k some at whole =
+items_even : (a offset size k : ℕ) → 1 ≤ a → offset % a ≡ 0 → size % a ≡ 0 → (offset + k * size) % a ≡ 0
+items_even a offset size k some at whole =
     let begin : offset ≡ a * (offset / a) = omega arith in
     let long : size ≡ a * (size / a) = omega arith in
     let sum : a * (offset / a) + k * (a * (size / a)) ≡ a * (offset / a + k * (size / a)) = omega arith in
     ap (λ n. (n + k * size) % a) begin ∙ ap (λ n. (a * (offset / a) + k * n) % a) long ∙ ap (λ n. n % a) sum ∙ mod-multiple a (offset / a + k * (size / a))
+
+multiples_even : (a b n : ℕ) → 1 ≤ a → 1 ≤ b → b % a ≡ 0 → n % b ≡ 0 → n % a ≡ 0
+multiples_even a b n some several divides whole =
+    let times : n ≡ b * (n / b) = omega arith in
+    let parts : b ≡ a * (b / a) = omega arith in
+    let product : a * (b / a) * (n / b) ≡ a * (b / a * (n / b)) = omega arith in
+    ap (λ k. k % a) (times ∙ ap (λ k. k * (n / b)) parts ∙ product) ∙ mod-multiple a (b / a * (n / b))
+
+-- items in braces that stand at a multiple themselves
+nested_even : (a start offset size k : ℕ) → 1 ≤ a → start % a ≡ 0 → offset % a ≡ 0 → size % a ≡ 0 → (start + (offset + k * size)) % a ≡ 0
+nested_even a start offset size k some at begins whole =
+    let once : start + 1 * (offset + k * size) ≡ start + (offset + k * size) = omega arith in
+    ap (λ n. n % a) (sym once) ∙ items_even a start (offset + k * size) 1 some at (items_even a offset size k some begins whole)
 
 greater_even : (a b : ℕ) → IsTrue (is_align a) → IsTrue (is_align b) → a ≤ b → b % a ≡ 0
 greater_even a b is also le =
@@ -48,7 +61,7 @@ round_up_small n a is few = by_align (λ k. round_up n k ≤ 8192) (omega arith)
 pub greatest_align-is : (fields : List FieldPlace) → All IsEvenPlace fields → IsTrue (is_align (greatest_align fields))
 greatest_align-is [] even = refl
 greatest_align-is (f ∷ fields) even =
-    max_is_align f.element.align (greatest_align fields) (All-head IsEvenPlace f fields even).element.aligned
+    max_is_align f.item.align (greatest_align fields) (All-head IsEvenPlace f fields even).item.aligned
     (greatest_align-is fields (All-tail IsEvenPlace f fields even))
 
 all_placed_in : (whole : Extent) (fields : List FieldPlace) → IsTrue (is_align whole.align) → greatest_end fields ≤ whole.size →
@@ -56,12 +69,14 @@ all_placed_in : (whole : Extent) (fields : List FieldPlace) → IsTrue (is_align
 all_placed_in whole [] is ends wide even = All-nil (IsPlacedIn whole)
 all_placed_in whole (f ∷ fields) is ends wide even =
     let head : IsEvenPlace f = All-head IsEvenPlace f fields even in
-    let some = positive f.element.align head.element.aligned in
+    let some = positive f.item.align head.item.aligned in
     All-cons (IsPlacedIn whole) f fields
     (record {
-      aligned = λ k. elements_even f.element.align f.offset f.element.size k some head.begins head.element.multiple;
+      aligned = λ k. items_even f.item.align f.offset f.item.size k some head.begins head.item.multiple;
       inside = omega arith;
-      divides = greater_even f.element.align whole.align head.element.aligned is (omega arith);
+      nested = λ start k at. nested_even f.item.align start f.offset f.item.size k some
+          (multiples_even f.item.align whole.align start some (positive whole.align is) (greater_even f.item.align whole.align head.item.aligned is (omega arith)) at)
+          head.begins head.item.multiple;
     })
     (all_placed_in whole fields is (omega arith) (omega arith) (All-tail IsEvenPlace f fields even))
 

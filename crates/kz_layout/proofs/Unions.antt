@@ -36,7 +36,7 @@ fold_from a [] = sym (or_zero_r a)
 fold_from a (x ∷ xs) =
     fold_from (bit_or a x) xs ∙ or_assoc a x (union_of xs) ∙ ap (bit_or a) (sym (fold_from (bit_or 0 x) xs ∙ ap (λ n. bit_or n (union_of xs)) (or_zero_l x)))
 
-union-cons : (x : ℕ) (xs : List ℕ) → union_of (x ∷ xs) ≡ bit_or x (union_of xs)
+pub union-cons : (x : ℕ) (xs : List ℕ) → union_of (x ∷ xs) ≡ bit_or x (union_of xs)
 union-cons x xs = fold_from (bit_or 0 x) xs ∙ ap (λ n. bit_or n (union_of xs)) (or_zero_l x)
 
 union-append : (xs ys : List ℕ) → union_of (xs ++ ys) ≡ bit_or (union_of xs) (union_of ys)

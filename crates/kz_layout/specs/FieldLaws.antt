@@ -1,12 +1,12 @@
 -- What holds of the places of fields, in each layout that declarations have.
-use Rattle.std.specs.Prelude.{◌≡◌, ℕ, ◌%◌, ◌≤◌, ◌<◌, IsTrue, List, length, Some, Ok, slice_get, All}
+use Rattle.std.specs.Prelude.{◌≡◌, ℕ, ◌+◌, ◌%◌, ◌≤◌, ◌<◌, IsTrue, List, length, Some, Ok, slice_get, All}
 use Rattle.kz_model.specs.declared.bundle.Kind.{Kind, Union', Row_of-Field, end_of-Field, more_of-Field}
 use Rattle.kz_model.specs.declared.bundle.Field.{Field}
 use Rattle.kz_model.specs.declared.bundle.TypeDecl.{TypeDecl}
 use Rattle.kz_model.specs.declared.record.Layout.{Layout}
 use Rattle.kz_model.specs.Types.Layouts.{Text, layouts_of, names_of}
 use Rattle.kz_layout.specs.Granules.{is_align}
-use Rattle.kz_layout.specs.FieldPlaces.{Extent, FieldPlace, element_at, end_of, extent_over, layout_extent, union_places, struct_places}
+use Rattle.kz_layout.specs.FieldPlaces.{Extent, FieldPlace, item_at, end_of, extent_over, layout_extent, union_places, struct_places}
 
 -- The alignment is 1, 2, 4 or 8, and the size is a multiple of it, of at most 8192 bytes.
 pub record IsFitExtent (whole : Extent) : Type 0 where
@@ -14,13 +14,13 @@ pub record IsFitExtent (whole : Extent) : Type 0 where
   pub multiple : whole.size % whole.align ≡ 0
   pub small : whole.size ≤ 8192
 
--- A field within some braces: each of its elements, the first one too, is at a multiple of its alignment, and the last
--- one ends within the braces. The alignment divides that of the braces, so all this holds too wherever braces of that
--- alignment stand in others.
+-- A field within some braces: each of its items, the first one too, is at a multiple of its alignment, and the last one
+-- ends within the braces. Where the braces stand at a multiple of their own alignment, as in other braces, each item
+-- still is at a multiple of its alignment.
 pub record IsPlacedIn (whole : Extent) (f : FieldPlace) : Type 0 where
-  pub aligned : (k : ℕ) → element_at f k % f.element.align ≡ 0
+  pub aligned : (k : ℕ) → item_at f k % f.item.align ≡ 0
   pub inside : end_of f ≤ whole.size
-  pub divides : whole.align % f.element.align ≡ 0
+  pub nested : (start k : ℕ) → start % whole.align ≡ 0 → (start + item_at f k) % f.item.align ≡ 0
 
 -- each field ends before any later one begins, so no byte is in two of them
 abbrev pub AreApart : List FieldPlace → Type 0

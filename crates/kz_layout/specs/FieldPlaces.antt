@@ -1,5 +1,5 @@
 -- Where the fields of a declared type are: the place of each field of a struct in its order, and of each field of a
--- union, as a reader works them out with paper and pencil, with no cover of bytes.
+-- union, as one works them out by hand, with no cover of bytes.
 use Rattle.std.specs.Prelude.{ℕ, ◌+◌, ◌*◌, max, List, [], ◌∷◌, Option, Some, None, slice_get}
 use Rattle.kz_model.specs.declared.bundle.Kind.{Kind, Union', Row_of-Field, end_of-Field, more_of-Field}
 use Rattle.kz_model.specs.declared.bundle.Kind.TheVariants.{Ptr, Auth, U8, U16, U32, U64, Bytes, Struct}
@@ -16,22 +16,22 @@ pub record Extent : Type 0 where
 abbrev pub extent : ℕ → ℕ → Extent
 extent size align = record { size = size; align = align }
 
--- a field: where it begins, how many elements it has, and the extent of each
+-- a field: where it begins, how many items it has, and the extent of each
 pub record FieldPlace : Type 0 where
   pub offset : ℕ
   pub count : ℕ
-  pub element : Extent
+  pub item : Extent
 
 abbrev pub field_place : ℕ → ℕ → Extent → FieldPlace
-field_place offset count element = record { offset = offset; count = count; element = element }
+field_place offset count item = record { offset = offset; count = count; item = item }
 
--- where element k of a field begins
-abbrev pub element_at : FieldPlace → ℕ → ℕ
-element_at f k = f.offset + k * f.element.size
+-- where item k of a field begins
+abbrev pub item_at : FieldPlace → ℕ → ℕ
+item_at f k = f.offset + k * f.item.size
 
--- the byte behind a field's last element
+-- the byte behind a field's last item
 abbrev pub end_of : FieldPlace → ℕ
-end_of f = element_at f f.count
+end_of f = item_at f f.count
 
 abbrev pub greatest_end : List FieldPlace → ℕ
 greatest_end [] = 0
@@ -39,7 +39,7 @@ greatest_end (f ∷ fields) = max (end_of f) (greatest_end fields)
 
 abbrev pub greatest_align : List FieldPlace → ℕ
 greatest_align [] = 1
-greatest_align (f ∷ fields) = max f.element.align (greatest_align fields)
+greatest_align (f ∷ fields) = max f.item.align (greatest_align fields)
 
 -- The extent of some braces: the greatest alignment of their fields, and the least multiple of it that all of them end
 -- within.
@@ -80,7 +80,7 @@ abbrev mutual
 
 -- a field behind others that end here, at the next multiple of its alignment
 abbrev pub next_place : ℕ → ℕ → Extent → FieldPlace
-next_place end count element = field_place (round_up end element.align) count element
+next_place end count item = field_place (round_up end item.align) count item
 
 -- the fields of a struct from this byte on, one after the other
 abbrev pub places_from : List Text → List Layout → ℕ → List Field → List FieldPlace

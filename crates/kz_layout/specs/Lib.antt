@@ -5,3 +5,4 @@ pub mod Granules
 pub mod Laid
 pub mod FieldPlaces
 pub mod FieldLaws
+pub mod PointerLaws

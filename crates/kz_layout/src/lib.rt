@@ -5,7 +5,8 @@
 //! in the declarations and in the granules that fields cover, whatever their counts are. Names are found in ordered
 //! trees.
 //!
-//! Contract: the layouts are the definition's, or the fault is its first, with its place.
+//! Contract: the layouts are the definition's, or the fault is its first, with its place. Where fields are in them, and
+//! what their letters say, is said by laws (src/laws.rt).
 #![tactic(auto)]
 
 mod body;
@@ -18,7 +19,7 @@ mod places;
 mod types;
 
 pub use kz_model::{LayoutCause, LayoutFault};
-pub use laws::fields_are_placed;
+pub use laws::{data_holds_no_pointer, fields_are_placed};
 pub use layouter::Layouter;
 pub use places::Places;
 pub use types::layouts;
