@@ -15,7 +15,7 @@ ghost use Rattle.kz_cpu.specs.Local.{named_by, bound_by, rebound};
 use crate::Binding;
 use crate::cache::{Cache, learn};
 use kz_book::Book;
-use kz_model::{Bound, Reply, Room as ZoneRoom, Step};
+use kz_model::{Bound, RecentSteps, Reply, Room as ZoneRoom, Step};
 use kz_supply::{Pages, Want};
 use std::alloc::{AllocError, Global};
 use std::marker::Model;
@@ -237,6 +237,15 @@ impl Cpu {
     {
         let cache = &self.caches[zone as usize];
         cache.recent.len() > 0
+    }
+
+    /// Its steps on the zone since its last visit there.
+    pub fn recent(&self, zone: u32) -> &RecentSteps
+        requires { zone < length self.now.caches }
+        ensures { result.now ≡ recent_at self.now zone }
+    {
+        let cache = &self.caches[zone as usize];
+        &cache.recent
     }
 
     /// How many chunks of the zone it knows.
