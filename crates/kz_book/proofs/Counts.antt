@@ -7,7 +7,7 @@ use Rattle.std.proofs.lemmas.List.Sums.{sum_by-set}
 use Rattle.kz_model.specs.declared.record.Room.{Room}
 use Rattle.kz_model.specs.declared.record.Visit.{Visit}
 use Rattle.kz_model.specs.Run.Journal.{carried_of}
-use Rattle.kz_book.specs.Book.{IsWithin}
+use Rattle.kz_book.specs.Book.{AreWithinRoom, IsWithin, visits_of}
 
 pub carried-push : (cpu : ℕ) (visits : List Visit) (v : Visit) → carried_of cpu (visits ++ v ∷ []) ≡ carried_of cpu visits + (if v.cpu == cpu then v.count else 0)
 carried-push cpu [] v = omega arith
@@ -38,14 +38,32 @@ few_visits (v ∷ visits) steps known some counts =
         let other : cpu ≡ v.cpu → ⊥ = λ same. grind arith in
         omega (arith, ap (λ b. (if b then v.count else 0) + carried_of cpu visits) e, count, get_or-set_other steps v.cpu cpu (slice_index_or steps v.cpu 0 - v.count) 0 other)
 
+-- visits of a CPU that carry a step each are at most as many as their steps
+few_of : (cpu : ℕ) (visits : List Visit) → All (λ (v : Visit). 1 ≤ v.count) visits → visits_of cpu visits ≤ carried_of cpu visits
+few_of cpu [] some = omega arith
+few_of cpu (v ∷ visits) some =
+    let one : 1 ≤ v.count = All-head (λ (w : Visit). 1 ≤ w.count) v visits some in
+    let fewer = few_of cpu visits (All-tail (λ (w : Visit). 1 ≤ w.count) v visits some) in
+    elim (v.cpu == cpu) as (λ b. (if b then 1 else 0) + visits_of cpu visits ≤ (if b then v.count else 0) + carried_of cpu visits) [
+      | true ↦ omega (arith, one, fewer)
+      | false ↦ omega (arith, fewer)
+    ]
+
+pub are_within : (room : Room) (visits : List Visit) → All (λ (v : Visit). v.cpu < length room.steps) visits → All (λ (v : Visit). 1 ≤ v.count) visits → ((cpu : ℕ) → carried_of cpu visits ≤ slice_index_or room.steps cpu 0) →
+    AreWithinRoom room visits
+are_within room visits cpus some counts = record { cpus = cpus; some = some; counts = counts; few = λ cpu. omega (arith, few_of cpu visits some, counts cpu) }
+
+-- there are no more visits than steps in the room
+pub few_within : (room : Room) (visits : List Visit) → AreWithinRoom room visits → length visits ≤ sum room.steps
+few_within room visits h = few_visits visits room.steps h.cpus h.some h.counts
+
 -- a visit more that the room has room for
 pub within_push : (room : Room) (visits : List Visit) (capacity now : ℕ) (v : Visit) → IsWithin room visits capacity → capacity ≤ now → v.cpu < room.params.cpus → 1 ≤ v.count → carried_of v.cpu visits + v.count ≤ slice_index_or room.steps v.cpu 0 →
     IsWithin room (visits ++ v ∷ []) now
 within_push room visits capacity now v h more lt one count = record {
   fit = h.fit;
-  cpus = All-push (λ (w : Visit). w.cpu < length room.steps) visits v h.cpus (omega (arith, h.fit.cpus));
-  some = All-push (λ (w : Visit). 1 ≤ w.count) visits v h.some one;
-  counts = λ cpu. by_cpu cpu (h.counts cpu) (v.cpu == cpu) refl;
+  within = are_within room (visits ++ v ∷ []) (All-push (λ (w : Visit). w.cpu < length room.steps) visits v h.within.cpus (omega (arith, h.fit.cpus))) (All-push (λ (w : Visit). 1 ≤ w.count) visits v h.within.some one)
+      (λ cpu. by_cpu cpu (h.within.counts cpu) (v.cpu == cpu) refl);
   enough = omega (arith, h.enough);
 }
   where
@@ -60,4 +78,4 @@ pub room_for_visit : (room : Room) (visits : List Visit) (capacity : ℕ) (v : V
     length visits < capacity
 room_for_visit room visits capacity v h lt one count =
     let next : IsWithin room (visits ++ v ∷ []) capacity = within_push room visits capacity capacity v h (omega arith) lt one count in
-    omega (arith, few_visits (visits ++ v ∷ []) room.steps next.cpus next.some next.counts, h.enough, length-append visits (v ∷ []))
+    omega (arith, few_within room (visits ++ v ∷ []) next.within, h.enough, length-append visits (v ∷ []))

@@ -1,7 +1,7 @@
 -- A zone's history with a visit or a settling more.
-use Rattle.std.proofs.Common.{◌≡◌, ℕ, ◌+◌, ◌<◌, ◌==◌, true, false, if◌then◌else◌, List, [], ◌∷◌, ◌++◌, length, take, drop, map, Option, None, Some, refl, ap, sym, ◌∙◌, subst, arith}
+use Rattle.std.proofs.Common.{◌≡◌, ℕ, ◌+◌, ◌<◌, ◌==◌, true, false, if◌then◌else◌, List, [], ◌∷◌, ◌++◌, length, take, drop, map, replicate, Option, None, Some, refl, ap, sym, ◌∙◌, subst, arith}
 use Rattle.std.specs.Option.{option_map_or}
-use Rattle.std.proofs.lemmas.List.{append-nil, get_or-set_same, length-set, map-append, set-get_or, set-set}
+use Rattle.std.proofs.lemmas.List.{append-nil, get_or-set_same, get_or-set_other, length-set, map-append, set-get_or, set-set}
 use Rattle.kz_model.specs.declared.record.Room.{Room}
 use Rattle.kz_model.specs.declared.record.ZoneParams.{ZoneParams}
 use Rattle.kz_model.specs.declared.step.Block.{Block}
@@ -11,7 +11,7 @@ use Rattle.kz_model.specs.declared.step.Step.{Step}
 use Rattle.kz_model.specs.declared.supply.Answer.{Answer}
 use Rattle.kz_model.specs.declared.supply.Ask.{Ask}
 use Rattle.kz_model.specs.Zone.Alone.{Course, course, alone, all_used}
-use Rattle.kz_model.specs.Zone.Late.{NeedNone, part_after, by_cpu}
+use Rattle.kz_model.specs.Zone.Late.{NeedNone, part_after, states_late, by_cpu}
 use Rattle.kz_model.specs.Zone.Local.{local_answer, with_cpu_part}
 use Rattle.kz_model.specs.Zone.Rules.{Effect, Part, Stepped, needs_visit, asks_of, all_answered, effect_of, part_of, put_back, alone_step}
 use Rattle.kz_model.specs.Zone.Whole.{IsWhole}
@@ -29,7 +29,7 @@ use Rattle.kz_supply.specs.Pages.{SupplyView}
 use Rattle.kz_zone.specs.Zone.{Zone, StandsFor}
 use Rattle.kz_book.specs.Acts.{Scene, IsIn, IsOrderly, HasEffect, HasEffectInEachState, scene}
 use Rattle.kz_book.specs.Book.{History, Book, KeepsHistory, params_of}
-use Rattle.kz_book.specs.Visits.{IsAtVisit, Extends, Settles, own_now, replies_late, bound_there}
+use Rattle.kz_book.specs.Visits.{IsAtVisit, Extends, Settles, own_in, replies_late, bound_there}
 
 -- ---- courses
 
@@ -139,12 +139,12 @@ step_done p state after cpu step own reply exchanges mine d =
 -- ---- a history with a visit more
 
 pub extends : {Base : Type 0} (book new : Book) (j : History) (cpu : ℕ) (recent : List Step) (stack left : List Block) (bound now : Option Bound) (step : Step) (reply : Reply) (first last : SupplyView Base) (a : HasEffectInEachState (scene book.zone stack bound) (scene new.zone left now) cpu step reply first last) →
-    new.room ≡ book.room → new.zone.params ≡ book.zone.params → 0 < (params_of book).count → 0 < (params_of book).magazine → cpu < (params_of book).cpus → KeepsHistory book j → IsAtVisit (params_of book) j cpu recent stack bound step →
+    new.room ≡ book.room → new.zone.params ≡ book.zone.params → 0 < (params_of book).count → 0 < (params_of book).magazine → cpu < (params_of book).cpus → KeepsHistory book j → IsAtVisit (params_of book) (cpu_part j.made.end cpu) recent stack bound step →
     (after : History) × KeepsHistory new after × Extends (params_of book) cpu j after recent step reply a.exchanges × (left ≡ (cpu_part after.made.end cpu).stack) × (now ≡ bound_there (cpu_part after.made.end cpu) step)
 extends book new j cpu recent stack left bound now step reply first last a room same some some_magazine lt k at =
     let p = params_of book in
     let s = j.made.end.shared in
-    let own = own_now p j cpu recent in
+    let own = own_in p j cpu recent in
     let within : cpu < length j.made.end.own = omega (arith, k.whole.cpus) in
     let answers = map answer_of a.exchanges in
     let e = effect_of p s cpu own step answers in
@@ -177,6 +177,11 @@ extends book new j cpu recent stack left bound now step reply first last a room 
         fit = d.fit;
         is_reply = d.is_reply;
         end = ap (λ (owns : List CpuPart). record { shared = e.shared; own = owns }) (set-set j.made.end.own cpu own e.own);
+        others = λ other ne. get_or-set_other state.own cpu other e.own no_cpu_part ne ∙ get_or-set_other j.made.end.own cpu other own no_cpu_part ne;
+        asked = ap (λ (rest : List (List Ask)). j.made.asks ++ (rest ++ map ask_of a.exchanges ∷ [])) late.2.asks
+            ∙ ap (λ (asks : List Ask). j.made.asks ++ (replicate (length recent) [] ++ asks ∷ [])) d.asks;
+        states = ap (λ (rest : List ZoneState). j.made.before ++ (rest ++ late.0.end ∷ [])) late.2.states
+            ∙ ap (λ (st : ZoneState). j.made.before ++ (states_late p j.made.end cpu recent ++ st ∷ [])) late.2.end;
         replies = ap (λ (rest : List Reply). j.made.replies ++ (rest ++ e.reply ∷ [])) (late.2.replies ∙ replies_same p (cpu_part j.made.end cpu) recent) ∙ ap (λ (r : Reply). j.made.replies ++ (replies_late p (cpu_part j.made.end cpu) recent ++ r ∷ [])) (sym d.is_reply);
       },
       d.stack ∙ ap (λ (mine : CpuPart). mine.stack) (sym ends),
@@ -184,11 +189,11 @@ extends book new j cpu recent stack left bound now step reply first last a room 
     )
 
 -- the zone's state after the recent steps is in order
-pub orderly : (book : Book) (j : History) (cpu : ℕ) (recent : List Step) (stack : List Block) (bound : Option Bound) (step : Step) → AreFitParams (params_of book) → cpu < (params_of book).cpus → KeepsHistory book j → IsAtVisit (params_of book) j cpu recent stack bound step →
+pub orderly : (book : Book) (j : History) (cpu : ℕ) (recent : List Step) (stack : List Block) (bound : Option Bound) (step : Step) → AreFitParams (params_of book) → cpu < (params_of book).cpus → KeepsHistory book j → IsAtVisit (params_of book) (cpu_part j.made.end cpu) recent stack bound step →
     IsOrderly (scene book.zone stack bound) cpu step
 orderly book j cpu recent stack bound step fit lt k at =
     let p = params_of book in
-    let own = own_now p j cpu recent in
+    let own = own_in p j cpu recent in
     let within : cpu < length j.made.end.own = omega (arith, k.whole.cpus) in
     let state = with_cpu_part j.made.end cpu own in
     let mine : cpu_part state cpu ≡ own = own_put j.made.end cpu own within in
@@ -207,7 +212,7 @@ pub settles : (book new : Book) (j : History) (cpu : ℕ) (recent : List Step) �
     (after : History) × KeepsHistory new after × Settles (params_of book) cpu j after recent
 settles book new j cpu recent room same some some_magazine lt k none =
     let p = params_of book in
-    let own = own_now p j cpu recent in
+    let own = own_in p j cpu recent in
     let within : cpu < length j.made.end.own = omega (arith, k.whole.cpus) in
     let late = late_course p j.made.end cpu recent [] within none in
     let all : IsCourse p (j.steps ++ by_cpu cpu recent) (j.answers ++ []) (joined j.made late.0) = course_on p j.steps (by_cpu cpu recent) j.answers [] j.made late.0 (is_course p j.steps j.answers j.made k.alone) late.1 late.2.left in
@@ -225,6 +230,9 @@ settles book new j cpu recent room same some some_magazine lt k none =
         steps = refl;
         answers = refl;
         end = late.2.end;
+        others = λ other ne. ap (λ (st : ZoneState). cpu_part st other) late.2.end ∙ get_or-set_other j.made.end.own cpu other own no_cpu_part ne;
+        asked = ap (λ (rest : List (List Ask)). j.made.asks ++ rest) late.2.asks;
+        states = ap (λ (rest : List ZoneState). j.made.before ++ rest) late.2.states;
         replies = ap (λ (rest : List Reply). j.made.replies ++ rest) (late.2.replies ∙ replies_same p (cpu_part j.made.end cpu) recent);
       },
     )

@@ -1,5 +1,5 @@
 -- A zone with its journal, as contracts see it, and the histories that it keeps.
-use Rattle.std.specs.Prelude.{◌≡◌, ℕ, ◌+◌, ◌<◌, ◌≤◌, List, All, length, sum, Some, slice_index_or}
+use Rattle.std.specs.Prelude.{◌≡◌, ℕ, ◌+◌, ◌<◌, ◌≤◌, ◌==◌, if◌then◌else◌, List, [], ◌∷◌, All, length, sum, Some, slice_index_or}
 use Rattle.kz_model.specs.declared.record.Room.{Room}
 use Rattle.kz_model.specs.declared.record.Visit.{Visit}
 use Rattle.kz_model.specs.declared.record.ZoneParams.{ZoneParams}
@@ -44,11 +44,21 @@ pub record HasSameRoom (old new : Book) : Type 0 where
 abbrev pub HasRoom : Book → ℕ → ℕ → Type 0
 HasRoom book cpu count = carried_of cpu book.visits + count ≤ slice_index_or book.room.steps cpu 0
 
--- What each book keeps: its room is fit, and its visits are of the zone's CPUs, carry a step each, and carry no more of
--- a CPU than the room says. So there is room for all that will come.
-pub record IsWithin (room : Room) (visits : List Visit) (capacity : ℕ) : Type 0 where
-  pub fit : IsFitRoom room
+-- how many visits of a CPU there are
+abbrev pub visits_of : ℕ → List Visit → ℕ
+visits_of cpu [] = 0
+visits_of cpu (v ∷ visits) = (if v.cpu == cpu then 1 else 0) + visits_of cpu visits
+
+-- The visits are of the zone's CPUs and carry a step each, and there are no more steps and no more visits of a CPU than
+-- the room says.
+pub record AreWithinRoom (room : Room) (visits : List Visit) : Type 0 where
   pub cpus : All (λ v. v.cpu < length room.steps) visits
   pub some : All (λ v. 1 ≤ v.count) visits
   pub counts : (cpu : ℕ) → carried_of cpu visits ≤ slice_index_or room.steps cpu 0
+  pub few : (cpu : ℕ) → visits_of cpu visits ≤ slice_index_or room.steps cpu 0
+
+-- What each book keeps: its room is fit, and its visits are within it. So there is room for all that will come.
+pub record IsWithin (room : Room) (visits : List Visit) (capacity : ℕ) : Type 0 where
+  pub fit : IsFitRoom room
+  pub within : AreWithinRoom room visits
   pub enough : sum room.steps ≤ capacity

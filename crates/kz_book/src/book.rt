@@ -7,7 +7,7 @@ ghost use Rattle.kz_zone.specs.Growth.{CanServe, chunks_of};
 ghost use Rattle.kz_zone.specs.Room.{IsFitRoom};
 ghost use Rattle.kz_zone.specs.Zone.{IsSoundZone};
 ghost use Rattle.kz_book.specs.Acts.{HasEffectInEachState, scene};
-ghost use Rattle.kz_book.specs.Book.{History, KeepsHistory, HasRoom, HasSameRoom, params_of};
+ghost use Rattle.kz_book.specs.Book.{History, KeepsHistory, HasRoom, HasSameRoom, AreWithinRoom, params_of};
 ghost use Rattle.kz_book.specs.Visits.{IsAtVisit, CanTakeStep, HasUsed, Extends, Settles, visit_of, settled_of, want_at, backs_at, bound_there};
 
 use crate::acts::act;
@@ -92,7 +92,7 @@ impl Book {
         requires cpu { cpu < (params_of self.old).cpus }
         requires same_magazine { pair.old.magazine ≡ (params_of self.old).magazine }
         requires at { (j : History) × KeepsHistory self.old j ×
-            IsAtVisit (params_of self.old) j cpu recent.now pair.old.blocks bound.old step.now }
+            IsAtVisit (params_of self.old) (cpu_part j.made.end cpu) recent.now pair.old.blocks bound.old step.now }
         requires room { HasRoom self.old cpu (length recent.now + 1) }
         requires step { CanTakeStep self.old.zone step.now }
         requires serves { CanServe (P.seen pages.old) (chunks_of self.old.zone)
@@ -105,7 +105,7 @@ impl Book {
         ensures keeps { (exchanges : List Exchange) ×
             HasUsed self.old.zone self.new.zone (P.seen pages.old) (P.seen pages.new) exchanges ×
             ((j : History) → KeepsHistory self.old j →
-            IsAtVisit (params_of self.old) j cpu recent.now pair.old.blocks bound.old step.now →
+            IsAtVisit (params_of self.old) (cpu_part j.made.end cpu) recent.now pair.old.blocks bound.old step.now →
             (after : History) × KeepsHistory self.new after ×
             Extends (params_of self.old) cpu j after recent.now step.now result exchanges
             × (pair.new.blocks ≡ (cpu_part after.made.end cpu).stack) ×
@@ -181,14 +181,18 @@ impl Book {
 
     /// The visits so far.
     pub fn visits(&self) -> &[Visit]
-        ensures { result.now ≡ self.now.visits }
+        ensures is { result.now ≡ self.now.visits }
+        ensures within { AreWithinRoom self.now.room result.now }
+        ensures few { length result.now ≤ sum self.now.room.steps }
     {
         &self.visits
     }
 
     /// All visits, moved out. The zone is let go.
     pub fn into_visits(self) -> Items<Visit>
-        ensures { result ≡ self.visits }
+        ensures is { result ≡ self.visits }
+        ensures within { AreWithinRoom self.room result }
+        ensures few { length result ≤ sum self.room.steps }
     {
         Items::from_vec(self.visits)
     }

@@ -11,8 +11,8 @@ use Rattle.kz_model.specs.Zone.Rules.{name_of, needs_visit}
 use Rattle.kz_model.specs.Zone.State.{CpuPart, ZoneState, no_cpu_part, cpu_part}
 use Rattle.kz_supply.specs.Exchange.{Exchange}
 use Rattle.kz_book.specs.Book.{Book, History, KeepsHistory, params_of}
-use Rattle.kz_book.specs.Visits.{Extends, IsAtVisit, bound_there, effect_in, has_name, own_now}
-use Rattle.kz_cpu.specs.Caught.{IsCaughtUp}
+use Rattle.kz_book.specs.Visits.{Extends, IsAtVisit, Settles, bound_there, effect_in, has_name, own_in, own_now}
+use Rattle.kz_cpu.specs.Caught.{IsCaughtUp, IsCaughtUpWith}
 use Rattle.kz_cpu.specs.Cpu.{Cpu, Cache, Has, IsOnZone, no_cache, cache_at, recent_at, binding_at}
 use Rattle.kz_cpu.specs.Local.{Brings, IsAnswer, bound_by}
 use Rattle.kz_cpu.proofs.Bindings.{Changes, brings, has_now, cache_now}
@@ -58,20 +58,20 @@ needs_alike p old zone step k bound own other t h g =
     needs_by p own step k.pair.blocks bound (took_brings old zone step k bound own t h) ∙ sym (needs_by p other step k.pair.blocks bound (took_brings old zone step k bound other t g))
 
 -- a CPU that is caught up is at its visit
-pub at_visit : (old : Cpu) (zone : ℕ) (step : Step) (k : Cache) (bound : Option Bound) (p : ZoneParams) (j known : History) → Took old zone step k bound → p ≡ (cache_at old zone).params → IsCaughtUp old zone known → needs_visit p (own_now p known old.cpu (recent_at old zone)) step ≡ true →
-    IsCaughtUp old zone j → IsAtVisit p j old.cpu (recent_at old zone) k.pair.blocks bound step
-at_visit old zone step k bound p j known t same caught needs h =
+pub at_visit : (old : Cpu) (zone : ℕ) (step : Step) (k : Cache) (bound : Option Bound) (p : ZoneParams) (part known : CpuPart) → Took old zone step k bound → p ≡ (cache_at old zone).params → IsCaughtUp old zone known → needs_visit p (own_now p known (recent_at old zone)) step ≡ true →
+    IsCaughtUp old zone part → IsAtVisit p part (recent_at old zone) k.pair.blocks bound step
+at_visit old zone step k bound p part known t same caught needs h =
     let recent = recent_at old zone in
-    let F : ZoneParams → Type 0 = λ q. NeedNone q (cpu_part j.made.end old.cpu) recent in
-    let G : History → ZoneParams → Type 0 = λ i q. Has old zone (own_now q i old.cpu recent) in
-    let mine : Has old zone (own_now p j old.cpu recent) = subst (λ q. G j q) (sym same) h.has in
-    let theirs : Has old zone (own_now p known old.cpu recent) = subst (λ q. G known q) (sym same) caught.has in
-    let b = took_brings old zone step k bound (own_now p j old.cpu recent) t mine in
+    let F : ZoneParams → Type 0 = λ q. NeedNone q part recent in
+    let G : CpuPart → ZoneParams → Type 0 = λ own q. Has old zone (own_now q own recent) in
+    let mine : Has old zone (own_now p part recent) = subst (λ q. G part q) (sym same) h.has in
+    let theirs : Has old zone (own_now p known recent) = subst (λ q. G known q) (sym same) caught.has in
+    let b = took_brings old zone step k bound (own_now p part recent) t mine in
     record {
       none = subst F (sym same) h.none;
       is_stack = b.is_stack;
       is_bound = b.is_bound;
-      needs = needs_alike p old zone step k bound (own_now p j old.cpu recent) (own_now p known old.cpu recent) t mine theirs ∙ needs;
+      needs = needs_alike p old zone step k bound (own_now p part recent) (own_now p known recent) t mine theirs ∙ needs;
     }
 
 -- what is left of the CPU by a visit
@@ -79,23 +79,39 @@ pub record IsVisited (old new : Cpu) (zone : ℕ) (step : Step) (after : Cache) 
   pub changes : Changes old new zone step now after
   pub recent : after.recent ≡ []
 
+-- a CPU without recent steps that has what the history has of it is caught up
+caught_with : (new : Cpu) (zone : ℕ) (next : History) → recent_at new zone ≡ [] → Has new zone (cpu_part next.made.end new.cpu) → IsCaughtUpWith new zone next
+caught_with new zone next none has = record {
+  none = subst (λ (steps : List Step). NeedNone (cache_at new zone).params (cpu_part next.made.end new.cpu) steps) (sym none) tt;
+  has = subst (λ (steps : List Step). Has new zone (own_now (cache_at new zone).params (cpu_part next.made.end new.cpu) steps)) (sym none) has;
+}
+
 -- it is caught up with the history that has the visit
-pub caught_up : (old new : Cpu) (zone : ℕ) (step : Step) (k after : Cache) (bound now : Option Bound) (book : Book) (j next : History) (reply : Reply) (exchanges : List Exchange) → Took old zone step k bound → params_of book ≡ (cache_at old zone).params → old.cpu < (params_of book).cpus → KeepsHistory book j → IsCaughtUp old zone j →
-    Extends (params_of book) old.cpu j next (recent_at old zone) step reply exchanges → IsVisited old new zone step after now → after.pair.blocks ≡ (cpu_part next.made.end old.cpu).stack → now ≡ bound_there (cpu_part next.made.end old.cpu) step → IsCaughtUp new zone next
+pub caught_up : (old new : Cpu) (zone : ℕ) (step : Step) (k after : Cache) (bound now : Option Bound) (book : Book) (j next : History) (reply : Reply) (exchanges : List Exchange) → Took old zone step k bound → params_of book ≡ (cache_at old zone).params → old.cpu < (params_of book).cpus → KeepsHistory book j → IsCaughtUpWith old zone j →
+    Extends (params_of book) old.cpu j next (recent_at old zone) step reply exchanges → IsVisited old new zone step after now → after.pair.blocks ≡ (cpu_part next.made.end old.cpu).stack → now ≡ bound_there (cpu_part next.made.end old.cpu) step → IsCaughtUpWith new zone next
 caught_up old new zone step k after bound now book j next reply exchanges t same lt keeps h x v stack is =
     let p = params_of book in
     let recent = recent_at old zone in
-    let own = own_now p j old.cpu recent in
+    let own = own_in p j old.cpu recent in
     let e = effect_in p j old.cpu recent step exchanges in
     let within : old.cpu < length j.made.end.own = omega (arith, keeps.whole.cpus) in
     let mine : cpu_part next.made.end old.cpu ≡ e.own = ap (λ (st : ZoneState). cpu_part st old.cpu) x.end ∙ get_or-set_same j.made.end.own old.cpu e.own no_cpu_part within in
-    let has : Has old zone own = subst (λ (q : ZoneParams). Has old zone (own_now q j old.cpu recent)) (sym same) h.has in
+    let has : Has old zone own = subst (λ (q : ZoneParams). Has old zone (own_in q j old.cpu recent)) (sym same) h.has in
     let here = cache_now old new zone step now after t.on.zone_there v.changes in
-    let none : recent_at new zone ≡ [] = ap (λ (c : Cache). c.recent) here ∙ v.recent in
     let later : Has new zone e.own = has_now old new zone step now own e.own t.on v.changes.bindings (ap (λ (c : Cache). c.pair.blocks) here ∙ stack ∙ ap (λ (o : CpuPart). o.stack) mine) (is ∙ ap (λ (o : CpuPart). bound_there o step) mine)
     (only_effect p j.made.end.shared old.cpu own step _) has in
-    let there : Has new zone (cpu_part next.made.end new.cpu) = subst (λ (o : CpuPart). Has new zone o) (sym (ap (λ n. cpu_part next.made.end n) v.changes.cpu ∙ mine)) later in
-    record {
-      none = subst (λ (steps : List Step). NeedNone (cache_at new zone).params (cpu_part next.made.end new.cpu) steps) (sym none) tt;
-      has = subst (λ (steps : List Step). Has new zone (own_now (cache_at new zone).params next new.cpu steps)) (sym none) there;
-    }
+    caught_with new zone next (ap (λ (c : Cache). c.recent) here ∙ v.recent)
+    (subst (λ (o : CpuPart). Has new zone o) (sym (ap (λ n. cpu_part next.made.end n) v.changes.cpu ∙ mine)) later)
+
+-- ---- a settling
+
+-- it is caught up with the history that has its late steps
+pub settled_up : (old new : Cpu) (zone : ℕ) (book : Book) (j next : History) → params_of book ≡ (cache_at old zone).params → old.cpu < (params_of book).cpus → KeepsHistory book j → IsCaughtUpWith old zone j → Settles (params_of book) old.cpu j next (recent_at old zone) →
+    new.cpu ≡ old.cpu → recent_at new zone ≡ [] → ((own : CpuPart) → Has old zone own → Has new zone own) → IsCaughtUpWith new zone next
+settled_up old new zone book j next same lt keeps h s number none has =
+    let p = params_of book in
+    let own = own_in p j old.cpu (recent_at old zone) in
+    let within : old.cpu < length j.made.end.own = omega (arith, keeps.whole.cpus) in
+    let mine : cpu_part next.made.end old.cpu ≡ own = ap (λ (st : ZoneState). cpu_part st old.cpu) s.end ∙ get_or-set_same j.made.end.own old.cpu own no_cpu_part within in
+    let before : Has old zone own = subst (λ (q : ZoneParams). Has old zone (own_in q j old.cpu (recent_at old zone))) (sym same) h.has in
+    caught_with new zone next none (subst (λ (o : CpuPart). Has new zone o) (sym (ap (λ n. cpu_part next.made.end n) number ∙ mine)) (has own before))

@@ -7,15 +7,15 @@ ghost use Rattle.kz_supply.specs.Exchange.{Exchange};
 ghost use Rattle.kz_zone.specs.Growth.{CanServe, chunks_of};
 ghost use Rattle.kz_zone.specs.Room.{IsFitRoom};
 ghost use Rattle.kz_book.specs.Book.{History, KeepsHistory, HasRoom, HasSameRoom, params_of};
-ghost use Rattle.kz_book.specs.Visits.{CanTakeStep, HasUsed, Extends, Settles, has_name, own_now, visit_of, settled_of, want_at, backs_at};
+ghost use Rattle.kz_book.specs.Visits.{CanTakeStep, HasUsed, Extends, Settles, has_name, own_in, visit_of, settled_of, want_at, backs_at};
 ghost use Rattle.kz_cpu.specs.Cpu.{Has, IsOnZone, IsElsewhere, KnowsSame, Learns, cache_at, recent_at, opened_cache, opened_cpu};
-ghost use Rattle.kz_cpu.specs.Caught.{IsCaughtUp};
+ghost use Rattle.kz_cpu.specs.Caught.{IsCaughtUpWith};
 ghost use Rattle.kz_cpu.specs.Local.{named_by, bound_by, rebound};
 
 use crate::Binding;
 use crate::cache::{Cache, learn};
 use kz_book::Book;
-use kz_model::{Bound, Reply, Room as ZoneRoom, Step};
+use kz_model::{Bound, RecentSteps, Reply, Room as ZoneRoom, Step};
 use kz_supply::{Pages, Want};
 use std::alloc::{AllocError, Global};
 use std::marker::Model;
@@ -152,8 +152,8 @@ impl Cpu {
         requires here { IsOnZone self.old zone step.now }
         requires cpu { self.old.cpu < (params_of book.old).cpus }
         requires same_params { params_of book.old ≡ (cache_at self.old zone).params }
-        requires at { (j : History) × KeepsHistory book.old j × IsCaughtUp self.old zone j ×
-            (needs_visit (params_of book.old) (own_now (params_of book.old) j self.old.cpu (recent_at self.old zone))
+        requires at { (j : History) × KeepsHistory book.old j × IsCaughtUpWith self.old zone j ×
+            (needs_visit (params_of book.old) (own_in (params_of book.old) j self.old.cpu (recent_at self.old zone))
             step.now ≡ true) }
         requires room { HasRoom book.old self.old.cpu (length (recent_at self.old zone) + 1) }
         requires step { CanTakeStep book.old.zone step.now }
@@ -168,10 +168,10 @@ impl Cpu {
         // with.
         ensures keeps { (exchanges : List Exchange) ×
             HasUsed book.old.zone book.new.zone (P.seen pages.old) (P.seen pages.new) exchanges ×
-            ((j : History) → KeepsHistory book.old j → IsCaughtUp self.old zone j →
+            ((j : History) → KeepsHistory book.old j → IsCaughtUpWith self.old zone j →
             (after : History) × KeepsHistory book.new after ×
             Extends (params_of book.old) self.old.cpu j after (recent_at self.old zone) step.now result exchanges ×
-            IsCaughtUp self.new zone after) }
+            IsCaughtUpWith self.new zone after) }
         ensures recent { recent_at self.new zone ≡ [] }
         ensures elsewhere { IsElsewhere self.old self.new zone step.now }
         ensures learns { Learns (cache_at self.old zone) (cache_at self.new zone) book.new.zone.bases }
@@ -209,17 +209,17 @@ impl Cpu {
         requires cpu { self.old.cpu < (params_of book.old).cpus }
         requires same_params { params_of book.old ≡ (cache_at self.old zone).params }
         requires some { 0 < length (recent_at self.old zone) }
-        requires at { (j : History) × KeepsHistory book.old j × IsCaughtUp self.old zone j }
+        requires at { (j : History) × KeepsHistory book.old j × IsCaughtUpWith self.old zone j }
         requires room { HasRoom book.old self.old.cpu (length (recent_at self.old zone)) }
         ensures visits { book.new
             ≡ record book.old {
               visits = book.old.visits ++ settled_of round self.old.cpu (recent_at self.old zone)
                   ∷ [];
             } }
-        ensures keeps { (j : History) → KeepsHistory book.old j → IsCaughtUp self.old zone j →
+        ensures keeps { (j : History) → KeepsHistory book.old j → IsCaughtUpWith self.old zone j →
             (after : History) × KeepsHistory book.new after ×
             Settles (params_of book.old) self.old.cpu j after (recent_at self.old zone) ×
-            IsCaughtUp self.new zone after }
+            IsCaughtUpWith self.new zone after }
         ensures recent { recent_at self.new zone ≡ [] }
         ensures elsewhere { IsElsewhere self.old self.new zone Step.Flush }
         ensures knows { KnowsSame (cache_at self.old zone) (cache_at self.new zone) }
@@ -237,6 +237,15 @@ impl Cpu {
     {
         let cache = &self.caches[zone as usize];
         cache.recent.len() > 0
+    }
+
+    /// Its steps on the zone since its last visit there.
+    pub fn recent(&self, zone: u32) -> &RecentSteps
+        requires { zone < length self.now.caches }
+        ensures { result.now ≡ recent_at self.now zone }
+    {
+        let cache = &self.caches[zone as usize];
+        &cache.recent
     }
 
     /// How many chunks of the zone it knows.

@@ -14,7 +14,7 @@ use Rattle.kz_model.specs.declared.supply.Ask.{Ask}
 use Rattle.kz_model.specs.declared.supply.Ask.TheVariants.{Chunk as AskChunk, Frames, Back}
 use Rattle.kz_model.specs.declared.supply.Answer.{Answer}
 use Rattle.kz_model.specs.declared.supply.Answer.TheVariants.{Base, Given, NoSpace, NoFrames, Taken}
-use Rattle.kz_laws.specs.Amounts.{mapped_count}
+use Rattle.kz_laws.specs.Amounts.{mapped_count, new_gifts, new_chunks_most}
 use Rattle.kz_model.specs.Run.Supply.{granted_in, returned_in, pages_granted, pages_returned}
 use Rattle.kz_model.specs.Zone.State.{Chunk, Gift, Shared, CpuPart, no_chunk, chunk_at}
 use Rattle.kz_model.specs.Zone.Pick.{is_whole, picks, after_pick, block_picked, chunk_to_pick, without_idle, fresh_chunk, unmapped_place, ask_to_grow, grown}
@@ -177,17 +177,6 @@ made_ready p s (block ∷ stack) =
     let some : nat_lt 0 (suc (length stack)) ≡ true = grind arith in
     let none : (suc (length stack) == 0) ≡ false = grind arith in
     rw (some, none) (still_ready s s (record { mapped = refl; long = refl; transit = refl }))
-
--- how many gifts a step adds at most
-abbrev pub new_gifts : Step → ℕ
-new_gifts (Give name to) = 1
-new_gifts step = 0
-
--- how many chunks a step adds at most
-abbrev pub new_chunks_most : Step → ℕ
-new_chunks_most (Alloc name) = 1
-new_chunks_most (AllocZero name) = 1
-new_chunks_most step = 0
 
 -- the amounts after a step with these asks and answers, and so many new gifts and chunks
 pub record Amounts (p : ZoneParams) (zone : ℕ) (s t : Shared) (asks : List Ask) (answers : List Answer) (gifts growth : ℕ) : Type 0 where

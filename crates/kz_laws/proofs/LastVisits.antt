@@ -152,15 +152,15 @@ abbrev state_at : Course → ℕ → ZoneState
 state_at c place = slice_index_or c.before place c.end
 
 -- a course of steps, by its first step and the rest
-record Goes (p : ZoneParams) (state : ZoneState) (step : ℕ × Step) (steps : List (ℕ × Step)) (answers : List Answer)
+pub record Goes (p : ZoneParams) (state : ZoneState) (step : ℕ × Step) (steps : List (ℕ × Step)) (answers : List Answer)
     (c : Course) : Type 0 where
-  stepped : Stepped
-  rest : Course
-  one : alone_step p state step.0 step.1 answers ≡ Some stepped
-  more : course p stepped.state steps stepped.left ≡ Some rest
-  is : with_first state stepped rest ≡ c
+  pub stepped : Stepped
+  pub rest : Course
+  pub one : alone_step p state step.0 step.1 answers ≡ Some stepped
+  pub more : course p stepped.state steps stepped.left ≡ Some rest
+  pub is : with_first state stepped rest ≡ c
 
-goes : (p : ZoneParams) (state : ZoneState) (step : ℕ × Step) (steps : List (ℕ × Step)) (answers : List Answer)
+pub goes : (p : ZoneParams) (state : ZoneState) (step : ℕ × Step) (steps : List (ℕ × Step)) (answers : List Answer)
     (c : Course) → course p state (step ∷ steps) answers ≡ Some c → Goes p state step steps answers c
 goes p state step steps answers c is =
     let go = λ (stepped : Stepped). option_map_or (λ (rest : Course). Some (with_first state stepped rest))

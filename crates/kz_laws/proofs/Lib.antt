@@ -40,6 +40,7 @@ pub mod RunLogs
 pub mod RunRounds
 pub mod Sequestered
 pub mod Spelling
+pub mod StayAmounts
 pub mod StayAnswers
 pub mod StayCourses
 pub mod StayParts

@@ -64,7 +64,7 @@ course_split p state xs ys answers a d first all =
 
 -- ---- lists
 
-zip-append : {A B : Type 0} (xs ys : List A) (rs qs : List B) → length xs ≡ length rs → zip (xs ++ ys) (rs ++ qs) ≡ zip xs rs ++ zip ys qs
+pub zip-append : {A B : Type 0} (xs ys : List A) (rs qs : List B) → length xs ≡ length rs → zip (xs ++ ys) (rs ++ qs) ≡ zip xs rs ++ zip ys qs
 zip-append [] ys [] qs same = refl
 zip-append [] ys (r ∷ rs) qs same = absurd (omega arith)
 zip-append (x ∷ xs) ys [] qs same = absurd (omega arith)

@@ -32,7 +32,8 @@ use Rattle.kz_laws.specs.Play.{ZonePlay, Play, no_play, zone_play, replies_so_fa
 use Rattle.kz_laws.specs.PlayedAt.{IsSupplied, IsReplyWithin, chunks_there, zone_of_line}
 use Rattle.kz_model.specs.Types.Planned.{HasElements}
 use Rattle.kz_model.specs.Run.Journal.{bases, page_of}
-use Rattle.kz_laws.proofs.Amounts.{Amounts, new_gifts, new_chunks_most, effect_amounts}
+use Rattle.kz_laws.specs.Amounts.{new_gifts, new_chunks_most}
+use Rattle.kz_laws.proofs.Amounts.{Amounts, effect_amounts}
 use Rattle.kz_laws.proofs.Blocks.{within_more, reply_within}
 use Rattle.kz_laws.proofs.OrderLines.{entries, entries_there, answers_at-append, new_answers, are_new}
 use Rattle.kz_laws.proofs.Played.{asks_there, part_there, effect_is}

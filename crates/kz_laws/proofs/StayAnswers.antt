@@ -1,5 +1,5 @@
 -- What a CPU's stays were answered is what the report says of its lines.
-use Rattle.std.proofs.Common.{◌≡◌, ℕ, suc, ◌<◌, ◌==◌, ◌+◌, ◌&&◌, Bool, true, false, if◌then◌else◌, List, [], ◌∷◌, ◌++◌, length, take, drop, map, slice_index_or, Option, None, Some, refl, ap, sym, ◌∙◌, subst, arith, append_assoc, length-append}
+use Rattle.std.proofs.Common.{◌≡◌, ℕ, suc, ◌<◌, ◌==◌, ◌&&◌, true, false, if◌then◌else◌, List, [], ◌∷◌, ◌++◌, length, drop, map, slice_index_or, Option, None, Some, refl, ap, sym, ◌∙◌, arith, append_assoc, length-append}
 use Rattle.std.specs.List.{All}
 use Rattle.std.specs.Option.{option_map_or}
 use Rattle.std.proofs.Math.Seq.{get_or-append_seam}
@@ -20,7 +20,7 @@ use Rattle.kz_model.specs.Run.Journal.{params_of, addressed, lines_of_round, ste
 use Rattle.kz_model.specs.Run.Recorded.{zone_mapped}
 use Rattle.kz_model.specs.Text.Report.{Answered, answered_after, answered_lines, replies_carried, zone_replies}
 use Rattle.kz_laws.specs.declared.stays.Stay.{Stay}
-use Rattle.kz_laws.specs.Stays.{IsStay, AreStays, visits_in, steps_in_stay, steps_in, answers_in, replies_in, replies_made_to}
+use Rattle.kz_laws.specs.Stays.{IsStay, AreStays, visits_in, steps_in_stay, answers_in, replies_in, replies_made_to}
 use Rattle.kz_laws.specs.StayLaws.{AreStaysOfRun, AreReplies, journals_of, replies_among}
 use Rattle.kz_laws.proofs.OrderJournals.{course_lengths}
 use Rattle.kz_laws.proofs.StayCourses.{take-front, drop-front}

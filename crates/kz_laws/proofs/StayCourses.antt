@@ -1,6 +1,5 @@
 -- Stays one after the other are one course.
-use Rattle.std.proofs.Common.{◌≡◌, ℕ, ◌≤◌, List, [], ◌∷◌, ◌++◌, length, take, drop, map, replicate, Option, Some, Bool, refl, ap, sym, ◌∙◌, subst, arith}
-use Rattle.std.specs.List.{flat_map}
+use Rattle.std.proofs.Common.{◌≡◌, ℕ, ◌≤◌, List, [], ◌∷◌, ◌++◌, length, take, drop, replicate, Option, Some, Bool, refl, ap, sym, ◌∙◌, subst, arith}
 use Rattle.std.proofs.lemmas.Grind.{flat_map-append}
 use Rattle.std.proofs.lemmas.List.{map-append, length-map, take_all, drop_all, take-append-le, drop-append-le}
 use Rattle.kz_model.specs.declared.step.Reply.{Reply}
@@ -11,7 +10,7 @@ use Rattle.kz_model.specs.declared.supply.Ask.{Ask}
 use Rattle.kz_model.specs.declared.supply.Answer.{Answer}
 use Rattle.kz_model.specs.Zone.State.{ZoneState}
 use Rattle.kz_model.specs.Zone.Alone.{Course, course}
-use Rattle.kz_model.specs.Run.Runs.{needs_along, needs_within, Carries, ask_rounds}
+use Rattle.kz_model.specs.Run.Runs.{needs_along, Carries, ask_rounds}
 use Rattle.kz_model.proofs.Courses.{joined, then_course, course-append}
 use Rattle.kz_model.proofs.MoreAnswers.{with_more, course-more}
 use Rattle.kz_laws.specs.declared.stays.Stay.{Stay}

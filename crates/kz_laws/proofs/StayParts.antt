@@ -1,5 +1,5 @@
 -- What a CPU has after stays, and the stays that visits and entries tell.
-use Rattle.std.proofs.Common.{◌≡◌, ◌≢◌, ℕ, ◌+◌, ◌-◌, ◌≤◌, ◌==◌, Bool, true, false, if◌then◌else◌, List, [], ◌∷◌, ◌++◌, length, take, drop, map, Option, None, Some, refl, ap, sym, ◌∙◌, subst, arith, length-append}
+use Rattle.std.proofs.Common.{◌≡◌, ◌≢◌, ℕ, ◌-◌, ◌==◌, true, false, if◌then◌else◌, List, [], ◌∷◌, ◌++◌, length, take, drop, Option, Some, refl, ap, sym, ◌∙◌, arith, length-append}
 use Rattle.std.specs.Option.{option_map_or}
 use Rattle.std.proofs.lemmas.List.{map-append, length-map}
 use Rattle.kz_model.specs.declared.step.Step.{Step}
@@ -12,7 +12,7 @@ use Rattle.kz_model.specs.Zone.Alone.{Course, course}
 use Rattle.kz_model.specs.Zone.Late.{by_cpu}
 use Rattle.kz_model.proofs.MoreAnswers.{with_more, course-more}
 use Rattle.kz_laws.specs.declared.stays.Stay.{Stay}
-use Rattle.kz_laws.specs.Stays.{IsStay, AreStays, HaveSteps, visit_in, visits_in, steps_in_stay, entries_in, answers_in, part_left_by, part_left, stays_by, stay_told, stays_told}
+use Rattle.kz_laws.specs.Stays.{AreStays, HaveSteps, visit_in, visits_in, steps_in_stay, entries_in, answers_in, part_left_by, part_left, stays_by, stay_told, stays_told}
 use Rattle.kz_laws.proofs.Delayed.{course_keeps}
 use Rattle.kz_laws.proofs.LastVisits.{others-map}
 use Rattle.kz_laws.proofs.StayCourses.{take-front, drop-front}

@@ -1,8 +1,7 @@
 -- Stays that carry each CPU's steps round by round, with one log of the supply, are a run.
-use Rattle.std.proofs.Common.{◌≡◌, ℕ, ◌<◌, ◌≤◌, ◌==◌, ◌+◌, ◌&&◌, nat_le, Bool, true, false, if◌then◌else◌, List, [], ◌∷◌, ◌++◌, length, take, drop, map, slice_index_or, Option, None, Some, refl, ap, sym, ◌∙◌, subst, arith, append_assoc, length-append}
-use Rattle.std.specs.List.{flat_map, range_with_len, zip}
+use Rattle.std.proofs.Common.{◌≡◌, ℕ, ◌<◌, ◌==◌, ◌+◌, ◌&&◌, nat_le, Bool, true, false, if◌then◌else◌, List, [], ◌∷◌, ◌++◌, length, take, drop, map, slice_index_or, Option, None, Some, refl, ap, sym, ◌∙◌, subst, arith, append_assoc, length-append}
 use Rattle.std.specs.Option.{option_map_or, unwrap_or}
-use Rattle.std.proofs.lemmas.List.{append-nil, map-append, length-map}
+use Rattle.std.proofs.lemmas.List.{map-append}
 use Rattle.std.proofs.lemmas.List.FromFn.{get_or-map-range_with_len, length-map-range_with_len}
 use Rattle.kz_model.specs.declared.bundle.Bundle.{Bundle}
 use Rattle.kz_model.specs.declared.step.Step.{Step}
@@ -10,15 +9,14 @@ use Rattle.kz_model.specs.declared.record.Plan.{Plan}
 use Rattle.kz_model.specs.declared.record.Visit.{Visit}
 use Rattle.kz_model.specs.declared.record.ZoneParams.{ZoneParams}
 use Rattle.kz_model.specs.declared.supply.SupplyEntry.{SupplyEntry}
-use Rattle.kz_model.specs.declared.supply.Answer.{Answer}
 use Rattle.kz_model.specs.Zone.State.{ZoneState, opening}
-use Rattle.kz_model.specs.Zone.Alone.{Course, course, alone, all_used}
+use Rattle.kz_model.specs.Zone.Alone.{Course, course, alone}
 use Rattle.kz_model.specs.Zone.Late.{by_cpu}
-use Rattle.kz_model.specs.Run.Journal.{params_of, steps_of, carried, steps_carried, spell_after, spell, answers_at, alone_at}
+use Rattle.kz_model.specs.Run.Journal.{params_of, steps_of, carried, steps_carried, spell_after, spell, answers_at}
 use Rattle.kz_model.specs.Run.Runs.{IsRun, IsRunAt}
 use Rattle.kz_laws.specs.declared.stays.Stay.{Stay}
 use Rattle.kz_laws.specs.Stays.{visit_in, visits_in, steps_in_stay, steps_in, entries_in, answers_in, steps_made_by}
-use Rattle.kz_laws.specs.StayLaws.{AreStaysAt, AreStaysOfRun, IsCourseOf, journals_of}
+use Rattle.kz_laws.specs.StayLaws.{AreStaysOfRun, IsCourseOf, journals_of}
 use Rattle.kz_laws.proofs.OrderRuns.{used_all}
 use Rattle.kz_laws.proofs.StayCourses.{stays_course, take-front, drop-front}
 

@@ -43,7 +43,7 @@ both true b e = (refl, e)
 both false b e = absurd (cc)
 
 -- the asks are answered by the first answers alone
-first_answers : (asks : List Ask) (answers : List Answer) → all_answered asks answers ≡ true →
+pub first_answers : (asks : List Ask) (answers : List Answer) → all_answered asks answers ≡ true →
     (all_answered asks (take (length asks) answers) ≡ true) × (length (take (length asks) answers) ≡ length asks)
 first_answers [] answers all = (refl, refl)
 first_answers (ask ∷ asks) [] all = absurd (cc)
@@ -52,7 +52,7 @@ first_answers (ask ∷ asks) (answer ∷ answers) all =
     let more = first_answers asks answers here.1 in
     (ap (λ b. b && all_answered asks (take (length asks) answers)) here.0 ∙ more.0, ap (λ n. suc n) more.1)
 
-pages_split : (n : ℕ) (answers : List Answer) →
+pub pages_split : (n : ℕ) (answers : List Answer) →
     length (filter_map page_of (take n answers)) + length (filter_map page_of (drop n answers))
     ≡ length (filter_map page_of answers)
 pages_split n answers =

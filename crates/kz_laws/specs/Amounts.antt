@@ -4,6 +4,8 @@ use Rattle.std.specs.List.{fold}
 use Rattle.kz_model.specs.declared.bundle.Act.{Act}
 use Rattle.kz_model.specs.declared.bundle.Bundle.{Bundle}
 use Rattle.kz_model.specs.declared.record.Plan.{Plan}
+use Rattle.kz_model.specs.declared.step.Step.{Step}
+use Rattle.kz_model.specs.declared.step.Step.TheVariants.{Alloc, AllocZero, Give}
 use Rattle.kz_model.specs.declared.supply.SupplyEntry.{SupplyEntry}
 use Rattle.kz_model.specs.Zone.State.{Chunk}
 use Rattle.kz_model.specs.Run.Rooms.{sum_below, lines_among, kind_among, is_allocating, is_giving}
@@ -49,3 +51,25 @@ zone_allocations_done b plan s zone = zone_kind_done b plan is_allocating s zone
 
 abbrev pub zone_gifts_done : Bundle → Plan → Play → ℕ → ℕ
 zone_gifts_done b plan s zone = zone_kind_done b plan is_giving s zone
+
+-- ---- steps
+
+-- how many gifts a step adds at most
+abbrev pub new_gifts : Step → ℕ
+new_gifts (Give name to) = 1
+new_gifts step = 0
+
+-- how many chunks a step adds at most
+abbrev pub new_chunks_most : Step → ℕ
+new_chunks_most (Alloc name) = 1
+new_chunks_most (AllocZero name) = 1
+new_chunks_most step = 0
+
+-- how many gifts and chunks steps add at most
+abbrev pub gifts_most_in : List (ℕ × Step) → ℕ
+gifts_most_in [] = 0
+gifts_most_in (step ∷ steps) = new_gifts step.1 + gifts_most_in steps
+
+abbrev pub chunks_most_in : List (ℕ × Step) → ℕ
+chunks_most_in [] = 0
+chunks_most_in (step ∷ steps) = new_chunks_most step.1 + chunks_most_in steps

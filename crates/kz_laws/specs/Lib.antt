@@ -12,4 +12,5 @@ pub mod Isolation
 pub mod Reports
 pub mod Worlds
 pub mod Stays
+pub mod StayAmounts
 pub mod StayLaws

@@ -18,5 +18,6 @@ pub use laws::{
     steps_without_a_visit_are_local,
 };
 pub use stays::{
-    Stay, stays_answer, stays_leave_parts, stays_make_courses, stays_make_runs, visits_tell_stays,
+    Stay, stays_answer, stays_hold_within, stays_leave_parts, stays_make_courses, stays_make_runs,
+    visits_tell_stays,
 };

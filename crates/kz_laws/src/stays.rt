@@ -1,4 +1,5 @@
 //! Stays of CPUs in zones: what one who holds a zone's turn leaves behind, and the run that all stays make.
+ghost use Rattle.kz_laws.specs.StayAmounts.{StaysHoldWithin};
 ghost use Rattle.kz_laws.specs.StayLaws.{StaysMakeCourses, StaysMakeRuns, StaysAnswer, StaysLeaveParts, VisitsTellStays};
 
 use kz_model::{Block, Bound, Reply, Step, SupplyEntry};
@@ -44,4 +45,9 @@ pub fn stays_leave_parts()
 /// Visits and entries tell the stays that made them.
 pub fn visits_tell_stays()
     ensures { VisitsTellStays }
+{}
+
+/// Stays hold no more than their steps bring.
+pub fn stays_hold_within()
+    ensures { StaysHoldWithin }
 {}

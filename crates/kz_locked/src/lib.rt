@@ -7,6 +7,8 @@
 //! the answer is the supply's, and the pass knows the entry (`ask_for_chunk`, `ask_for_frames`, `give_back`).
 #![tactic(auto)]
 
+mod laws;
 mod supply;
 
+pub use laws::{settlings_are_stays, visits_are_stays};
 pub use supply::{LockedSupply, Share, SupplyStart, ask_for_chunk, ask_for_frames, give_back};

@@ -9,7 +9,7 @@ use Rattle.kz_model.specs.declared.supply.Answer.{Answer}
 use Rattle.kz_model.specs.Zone.State.{CpuPart, ZoneState, opening, cpu_part}
 use Rattle.kz_model.specs.Zone.Rules.{needs_visit}
 use Rattle.kz_model.specs.Zone.Alone.{Course, course}
-use Rattle.kz_model.specs.Zone.Local.{local_answer}
+use Rattle.kz_model.specs.Zone.Local.{local_answer, with_cpu_part}
 
 -- none of these steps needs a visit, from what the CPU has
 abbrev pub NeedNone : ZoneParams → CpuPart → List Step → Type 0
@@ -26,6 +26,12 @@ abbrev pub answered_late : ZoneParams → CpuPart → List Step → List (Step �
 answered_late p own [] = []
 answered_late p own (step ∷ steps) = (step, (local_answer p own step).reply)
     ∷ answered_late p (local_answer p own step).own steps
+
+-- the zone's state before each of them, with what the steps so far leave the CPU
+abbrev pub states_late : ZoneParams → ZoneState → ℕ → List Step → List ZoneState
+states_late p state cpu [] = []
+states_late p state cpu (step ∷ steps) =
+    state ∷ states_late p (with_cpu_part state cpu (local_answer p (cpu_part state cpu) step).own) cpu steps
 
 -- The undelayed zone is the delayed one with each CPU's stack and names as its late steps leave them; none of those
 -- needs a visit.

@@ -11,7 +11,7 @@ use Rattle.kz_book.proofs.book.Book.visit.Goals as goal
 pub act-reply-requires-clause-at : goal.act-reply-requires-clause-at
 act-reply-requires-clause-at g c =
     let old : Book = record { room = c.self.inside.room; zone = c.self.inside.zone; visits = c.self.inside.visits.items } in
-    let F : Book → Type 0 = λ b. (j : History) × KeepsHistory b j × IsAtVisit (params_of b) j c.args.cpu c.args.recent.now c.args.pair.now.blocks c.args.bound.now c.args.step.now in
+    let F : Book → Type 0 = λ b. (j : History) × KeepsHistory b j × IsAtVisit (params_of b) (cpu_part j.made.end c.args.cpu) c.args.recent.now c.args.pair.now.blocks c.args.bound.now c.args.step.now in
     let G : Book → Type 0 = λ b. c.args.cpu < (params_of b).cpus in
     let at = subst F (sym c.self.view_is) c.requires.at in
     orderly old at.0 c.args.cpu c.args.recent.now c.args.pair.now.blocks c.args.bound.now c.args.step.now c.self.invariant.fit.params (subst G (sym c.self.view_is) c.requires.cpu) at.1 at.2
@@ -40,7 +40,7 @@ returns-clause-keeps g c =
     let lt = subst G (sym c.self.view_is) c.requires.cpu in
     let F : Book → Type 0 = λ b.
     HasUsed b.zone c.act-reply.new.zone (g.P.Pages.seen c.args.pages.now) (g.P.Pages.seen c.act-reply.new.pages) a.exchanges
-    × ((j : History) → KeepsHistory b j → IsAtVisit (params_of b) j c.args.cpu c.args.recent.now c.args.pair.now.blocks c.args.bound.now c.args.step.now →
+    × ((j : History) → KeepsHistory b j → IsAtVisit (params_of b) (cpu_part j.made.end c.args.cpu) c.args.recent.now c.args.pair.now.blocks c.args.bound.now c.args.step.now →
     (after : History) × KeepsHistory new after × Extends (params_of b) c.args.cpu j after c.args.recent.now c.args.step.now c.act-reply.result a.exchanges
     × (c.act-reply.new.pair.blocks ≡ (cpu_part after.made.end c.args.cpu).stack) × (c.act-reply.new.bound ≡ bound_there (cpu_part after.made.end c.args.cpu) c.args.step.now)) in
     let all : F old = (a.used, λ j k at. extends old new j c.args.cpu c.args.recent.now c.args.pair.now.blocks c.act-reply.new.pair.blocks c.args.bound.now c.act-reply.new.bound c.args.step.now c.act-reply.result _ _ a refl c.act-reply.ensures.same.params fit.shape.some_count fit.some_magazine lt k at) in

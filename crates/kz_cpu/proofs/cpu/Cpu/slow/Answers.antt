@@ -4,8 +4,8 @@ use Rattle.kz_model.specs.declared.step.Step.{Step}
 use Rattle.kz_model.specs.Zone.Rules.{name_of, needs_visit}
 use Rattle.kz_model.specs.Zone.State.{cpu_part}
 use Rattle.kz_book.specs.Book.{History, KeepsHistory, params_of}
-use Rattle.kz_book.specs.Visits.{IsAtVisit, Extends, bound_there, has_name, own_now}
-use Rattle.kz_cpu.specs.Caught.{IsCaughtUp}
+use Rattle.kz_book.specs.Visits.{IsAtVisit, Extends, bound_there, has_name, own_in}
+use Rattle.kz_cpu.specs.Caught.{IsCaughtUpWith}
 use Rattle.kz_cpu.specs.Cpu.{Cpu, Cache, IsElsewhere, IsOnZone, cache_at, recent_at}
 use Rattle.kz_cpu.specs.Local.{bound_by}
 use Rattle.kz_cpu.proofs.Bindings.{Changes, bindings_now, elsewhere}
@@ -40,19 +40,19 @@ returns g c =
     } in
     let left : IsVisited old new zone step after now = record { changes = ch; recent = c.clear.ensures } in
     let keeps = c.visit-reply.ensures.keeps in
-    let made : List Step → Type 0 = λ recent. (j : History) → KeepsHistory book j → IsAtVisit p j old.cpu recent k.pair.blocks bound step →
+    let made : List Step → Type 0 = λ recent. (j : History) → KeepsHistory book j → IsAtVisit p (cpu_part j.made.end old.cpu) recent k.pair.blocks bound step →
     (next : History) × KeepsHistory c.visit-reply.new.self next × Extends p old.cpu j next recent step c.visit-reply.result keeps.0 × (after.pair.blocks ≡ (cpu_part next.made.end old.cpu).stack) × (now ≡ bound_there (cpu_part next.made.end old.cpu) step) in
     let visit : made (recent_at old zone) = subst made (ap (λ (n : Cache). n.recent) t.is) keeps.2 in
-    let At : Cpu → Type 0 = λ o. (j : History) × KeepsHistory book j × IsCaughtUp o zone j × (needs_visit p (own_now p j o.cpu (recent_at o zone)) step ≡ true) in
+    let At : Cpu → Type 0 = λ o. (j : History) × KeepsHistory book j × IsCaughtUpWith o zone j × (needs_visit p (own_in p j o.cpu (recent_at o zone)) step ≡ true) in
     let at = subst At (sym c.self.view_is) c.requires.at in
     let same = subst (λ (o : Cpu). p ≡ (cache_at o zone).params) (sym c.self.view_is) c.requires.same_params in
     let lt = subst (λ (o : Cpu). o.cpu < p.cpus) (sym c.self.view_is) c.requires.cpu in
     let F : Cpu → Type 0 = λ o.
-    ((j : History) → KeepsHistory book j → IsCaughtUp o zone j → (next : History) × KeepsHistory c.visit-reply.new.self next × Extends p o.cpu j next (recent_at o zone) step c.visit-reply.result keeps.0 × IsCaughtUp new zone next)
+    ((j : History) → KeepsHistory book j → IsCaughtUpWith o zone j → (next : History) × KeepsHistory c.visit-reply.new.self next × Extends p o.cpu j next (recent_at o zone) step c.visit-reply.result keeps.0 × IsCaughtUpWith new zone next)
     × IsElsewhere o new zone step in
     let all : F old = (
       λ j kept caught.
-          let v = visit j kept (at_visit old zone step k bound p j at.0 t same at.2 at.3 caught) in
+          let v = visit j kept (at_visit old zone step k bound p (cpu_part j.made.end old.cpu) (cpu_part at.0.made.end old.cpu) t same at.2 at.3 caught) in
           (v.0, v.1, v.2, caught_up old new zone step k after bound now book j v.0 c.visit-reply.result keeps.0 t same lt kept caught v.2 left v.3 v.4),
       elsewhere old new zone step now after on ch,
     ) in
