@@ -4,6 +4,7 @@ use Rattle.std.specs.List.{range_with_len}
 use Rattle.std.proofs.Math.Nat.{mul-le-mul_right}
 use Rattle.std.proofs.Math.Seq.{take-append-add}
 use Rattle.std.proofs.lemmas.List.{drop-take, length-drop, length-replicate, length-take-le, replicate-append-replicate, take-take}
+use Rattle.std.proofs.lemmas.Slice.{drop-append-drop}
 use Rattle.kz_model.specs.declared.record.Geometry.{Geometry}
 use Rattle.kz_model.specs.Zone.Rules.{with_number}
 use Rattle.kz_model.specs.Zone.Whole.{times_idle, Rises}
@@ -11,7 +12,7 @@ use Rattle.kz_model.proofs.Counting.{length_within, rises-filter, rises-range, r
 use Rattle.kz_frame.proofs.Joins.{length-joined, written_more}
 use Rattle.kz_frame.specs.Frames.{joined, written}
 use Rattle.kz_model.specs.Types.Class.{IsFitGeometry}
-use Rattle.kz_chunk.specs.Chunk.{Chunk, IsInside, first_of, with_bytes_at}
+use Rattle.kz_chunk.specs.Chunk.{Chunk, IsInside, first_of, slack_of, with_bytes_at}
 use Rattle.kz_chunk.specs.Kept.{bytes_of, seen, without, IsSoundChunk}
 
 -- ---- places
@@ -43,6 +44,12 @@ write_within at n bytes xs fits inside =
     ap (λ m. take m (front ++ drop back xs)) split ∙ take-append-add front (drop back xs) (n - back)
     ∙ ap₂ (λ begins ends. (begins ++ bytes) ++ ends) (sym (take-take at n xs (omega arith))) (sym (ap (λ m. drop back (take m xs)) rest ∙ drop-take back (n - back) xs))
 
+-- what is written within the first bytes leaves those behind them
+rest_within : (at n : ℕ) (bytes xs : List ℕ) → at + length bytes ≤ n → n ≤ length xs → drop n (written at bytes xs) ≡ drop n xs
+rest_within at n bytes xs fits inside =
+    let long : length (take at xs ++ bytes) ≡ at + length bytes = omega (arith, length-append (take at xs) bytes, length-take-le at xs (omega arith)) in
+    drop-append-drop (at + length bytes) xs (take at xs ++ bytes) n fits long
+
 pub length_written : (at : ℕ) (bytes xs : List ℕ) → at + length bytes ≤ length xs → length (written at bytes xs) ≡ length xs
 length_written at bytes xs fits =
     omega (arith, length-append (take at xs ++ bytes) (drop (at + length bytes) xs), length-append (take at xs) bytes, length-take-le at xs (omega arith), length-drop (at + length bytes) xs)
@@ -57,6 +64,12 @@ pub write_is : (shape : Geometry) (at : ℕ) (bytes : List ℕ) (mapped : Bool) 
     joined new ≡ written at bytes (joined frames) → bytes_of shape new ≡ written at bytes (bytes_of shape frames)
 write_is shape at bytes mapped idle frames new fits kept is over =
     ap (take (shape.count * shape.element)) over ∙ write_within at (shape.count * shape.element) bytes (joined frames) fits (frames_hold shape mapped idle frames kept is)
+
+-- and the bytes behind the elements stay
+pub write_spares : (shape : Geometry) (at : ℕ) (bytes : List ℕ) (mapped : Bool) (idle : List ℕ) (frames new : List (List ℕ)) → at + length bytes ≤ shape.count * shape.element → IsSoundChunk shape mapped idle frames → mapped ≡ true →
+    joined new ≡ written at bytes (joined frames) → slack_of shape new ≡ slack_of shape frames
+write_spares shape at bytes mapped idle frames new fits kept is over =
+    ap (drop (shape.count * shape.element)) over ∙ rest_within at (shape.count * shape.element) bytes (joined frames) fits (frames_hold shape mapped idle frames kept is)
 
 pub write_keeps : (shape : Geometry) (at : ℕ) (bytes : List ℕ) (mapped : Bool) (idle : List ℕ) (frames new : List (List ℕ)) → at + length bytes ≤ shape.count * shape.element → IsSoundChunk shape mapped idle frames → mapped ≡ true →
     joined new ≡ written at bytes (joined frames) → length new ≡ length frames → IsSoundChunk shape mapped idle new
@@ -80,8 +93,8 @@ write_seen place bytes shape base mapped idle frames new now view kept =
     seen shape base mapped idle new ≡ record now { state = with_bytes_at (place now.shape) (bytes now.shape) now.state })
     view
     (λ is fits over.
-    let with : List ℕ → Chunk = λ bytes. record { shape = shape; base = base; state = record { mapped = mapped; idle = idle; bytes = bytes } } in
-    ap with (write_is shape (place shape) (bytes shape) mapped idle frames new fits kept is over))
+    let with : List ℕ → List ℕ → Chunk = λ bytes slack. record { shape = shape; base = base; state = record { mapped = mapped; idle = idle; bytes = bytes }; slack = slack } in
+    ap₂ with (write_is shape (place shape) (bytes shape) mapped idle frames new fits kept is over) (write_spares shape (place shape) (bytes shape) mapped idle frames new fits kept is over))
 
 -- ---- idle elements
 

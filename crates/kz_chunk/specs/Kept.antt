@@ -5,7 +5,7 @@ use Rattle.kz_model.specs.declared.record.Geometry.{Geometry}
 use Rattle.kz_model.specs.Zone.Whole.{Rises}
 use Rattle.kz_frame.specs.Frames.{joined}
 use Rattle.kz_model.specs.Types.Class.{IsFitGeometry}
-use Rattle.kz_chunk.specs.Chunk.{Chunk}
+use Rattle.kz_chunk.specs.Chunk.{Chunk, slack_of}
 
 -- the elements but for this one
 abbrev pub without : ℕ → List ℕ → List ℕ
@@ -23,6 +23,7 @@ seen shape base mapped idle frames =
       base = base;
       state =
           record { mapped = mapped; idle = idle; bytes = bytes_of shape frames };
+      slack = slack_of shape frames;
     }
 
 -- The idle elements rise below the count, and the frames are those of the pages while the chunk is mapped.

@@ -1,10 +1,11 @@
 //! The chunk.
-ghost use Rattle.std.specs.Prelude.{◌≡◌, ◌+◌, ◌*◌, ◌%◌, ◌<◌, ◌≤◌, [], true, false, length, take, drop, replicate, IfSome, IfNone};
+ghost use Rattle.std.specs.Prelude.{◌≡◌, ◌+◌, ◌*◌, ◌%◌, ◌<◌, ◌≤◌, ◌++◌, [], true, false, length, take, drop, replicate, IfSome, IfNone};
 ghost use Rattle.kz_model.specs.Zone.State.{no_chunk};
 ghost use Rattle.kz_model.specs.Zone.Pick.{element_to_pick, without_idle};
 ghost use Rattle.kz_model.specs.Zone.Whole.{Rises, times_idle};
 ghost use Rattle.kz_model.specs.Types.Class.{IsFitGeometry};
-ghost use Rattle.kz_chunk.specs.Chunk.{IsInside, mapped_with, first_of, with_idle_element, with_bytes_at};
+ghost use Rattle.kz_frame.specs.Frames.{joined};
+ghost use Rattle.kz_chunk.specs.Chunk.{IsInside, mapped_with, slack_of, first_of, with_idle_element, with_bytes_at};
 
 use crate::bytes::{piece_at, zero_over};
 use crate::idle::{fill, put_in_place, take_nearest};
@@ -39,7 +40,7 @@ impl Chunk {
     /// A chunk that is not mapped, and whose first page in its submap is this one.
     pub fn new(shape: Geometry, base: u32) -> Chunk
         requires { IsFitGeometry shape }
-        ensures { result ≡ record { shape = shape; base = base; state = no_chunk } }
+        ensures { result ≡ record { shape = shape; base = base; state = no_chunk; slack = [] } }
     {
         Chunk {
             shape,
@@ -54,7 +55,10 @@ impl Chunk {
     pub fn map(&mut self, frames: Frames)
         requires unmapped { self.old.state.mapped ≡ false }
         requires frames { length frames ≡ self.old.shape.pages }
-        ensures { self.new ≡ record self.old { state = mapped_with self.old.shape frames } }
+        ensures { self.new ≡ record self.old {
+          state = mapped_with self.old.shape frames;
+          slack = slack_of self.old.shape frames;
+        } }
     {
         let _ = frames.len();
         fill(&mut self.idle, self.shape.count);
@@ -62,12 +66,13 @@ impl Chunk {
         self.mapped = true;
     }
 
-    /// Gives the frames away.
+    /// Gives the frames away, with their bytes as they are.
     pub fn unmap(&mut self) -> Frames
         requires mapped { self.old.state.mapped ≡ true }
         requires idle { length self.old.state.idle ≡ self.old.shape.count }
-        ensures unmapped { self.new ≡ record self.old { state = no_chunk } }
+        ensures unmapped { self.new ≡ record self.old { state = no_chunk; slack = [] } }
         ensures frames { length result ≡ self.old.shape.pages }
+        ensures bytes { joined result ≡ self.old.state.bytes ++ self.old.slack }
     {
         self.mapped = false;
         self.idle.clear();

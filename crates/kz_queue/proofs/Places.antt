@@ -1,5 +1,5 @@
 -- The lowest ordinal at a place, by what stands where.
-use Rattle.std.proofs.Common.{◌≡◌, ℕ, ◌*◌, ◌/◌, ◌%◌, ◌<◌, ◌≤◌, ◌==◌, ◌&&◌, nat_lt, Bool, true, false, if◌then◌else◌, List, [], length, slice_index_or, replicate, Option, Some, None, IfSome, IfNone, refl, sym, ap, subst, ◌∙◌, arith}
+use Rattle.std.proofs.Common.{◌≡◌, ℕ, ◌*◌, ◌^◌, ◌/◌, ◌%◌, ◌<◌, ◌≤◌, ◌==◌, ◌&&◌, nat_lt, Bool, true, false, if◌then◌else◌, List, [], length, slice_index_or, replicate, Option, Some, None, IfSome, IfNone, refl, sym, ap, subst, ◌∙◌, arith}
 use Rattle.std.specs.List.{position_or_len}
 use Rattle.std.proofs.lemmas.List.Sums.{position_or_len_is}
 use Rattle.std.specs.Int.{bit_at}
@@ -59,7 +59,7 @@ lowest_of_sets room capacity places sets place (Some ordinal) s some none within
 none_stands : (place : Place) (ordinal : ℕ) → stands [] place ordinal ≡ false
 none_stands place ordinal = ap (λ test. test && is_place place (slice_index_or [] ordinal Gone)) (le-ltb ordinal 0 (omega arith))
 
-pub opened : (room capacity words : ℕ) (places : List Place) (sets : Sets) → places ≡ [] → room ≤ 4096 → room ≤ capacity → room ≤ 64 * words → ((place : Place) → set_of sets place ≡ replicate words 0) → IsShelf room capacity places sets
+pub opened : (room capacity words : ℕ) (places : List Place) (sets : Sets) → places ≡ [] → room < 2 ^ 32 → room ≤ capacity → room ≤ 64 * words → ((place : Place) → set_of sets place ≡ replicate words 0) → IsShelf room capacity places sets
 opened room capacity words places sets none most enough fit are =
     record {
       most = most;

@@ -1,5 +1,5 @@
 -- For each place the set of the ordinals that stand there.
-use Rattle.std.specs.Prelude.{◌≡◌, ℕ, ◌*◌, ◌<◌, ◌≤◌, ◌&&◌, nat_lt, Bool, List, length, slice_index_or}
+use Rattle.std.specs.Prelude.{◌≡◌, ℕ, ◌*◌, ◌^◌, ◌<◌, ◌≤◌, ◌&&◌, nat_lt, Bool, List, length, slice_index_or}
 use Rattle.kz_queue.specs.Ordinals.{has}
 use Rattle.kz_queue.specs.Shelf.{is_place}
 use Rattle.kz_queue.specs.declared.place.Place.{Place}
@@ -27,7 +27,7 @@ AreSets sets places = (place : Place) (ordinal : ℕ) → ordinal < 64 * length 
 
 -- What a shelf keeps.
 pub record IsShelf (room capacity : ℕ) (places : List Place) (sets : Sets) : Type 0 where
-  pub most : room ≤ 4096
+  pub most : room < 2 ^ 32
   pub fit : length places ≤ room
   pub enough : room ≤ capacity
   pub have_room : HaveRoom sets room

@@ -1,5 +1,5 @@
 //! For each place the set of the ordinals that stand there.
-ghost use Rattle.std.specs.Prelude.{◌≡◌, ◌*◌, ◌<◌, ◌≤◌, ◌==◌, ◌&&◌, ℕ, true, false, length, if◌then◌else◌, replicate, IfOk, IfSome, IfNone};
+ghost use Rattle.std.specs.Prelude.{◌≡◌, ◌*◌, ◌^◌, ◌<◌, ◌≤◌, ◌==◌, ◌&&◌, ℕ, true, false, length, if◌then◌else◌, replicate, IfOk, IfSome, IfNone};
 ghost use Rattle.kz_queue.specs.declared.place.Place.{Place as ThePlace};
 ghost use Rattle.kz_queue.specs.Ordinals.{has};
 ghost use Rattle.kz_queue.specs.Shelf.{is_place};
@@ -20,7 +20,7 @@ pub struct Sets {
 impl Sets {
     /// Empty sets with room for 64 times so many ordinals.
     pub fn new(alloc: Global, words: usize) -> Result<Sets, AllocError>
-        requires { words ≤ 64 }
+        requires { words ≤ 2 ^ 26 }
         ensures { IfOk result (λ sets. (place : ThePlace) → set_of sets place ≡ replicate words 0) }
     {
         Ok(Sets {

@@ -30,7 +30,6 @@ impl Model for Shelf {
 impl Shelf {
     /// An empty shelf with room for so many ordinals.
     pub fn new(alloc: Global, room: u32) -> Result<Shelf, AllocError>
-        requires { room ≤ 4096 }
         ensures { IfOk result (λ shelf. shelf ≡ record { room = room; places = [] }) }
     {
         let words = (room as usize + 63) / 64;

@@ -1,5 +1,5 @@
 -- One more entry of a zone that uses a supply.
-use Rattle.std.proofs.Common.{◌≡◌, ◌+◌, ◌<◌, ◌≤◌, ◌/◌, ℕ, ◌==◌, true, cond, nat_lt, List, [], ◌∷◌, ◌++◌, length, length-append, map, refl, ◌∙◌, ap, arith}
+use Rattle.std.proofs.Common.{◌≡◌, ◌+◌, ◌≤◌, ◌/◌, ℕ, ◌==◌, true, cond, nat_lt, List, [], ◌∷◌, ◌++◌, length, length-append, map, refl, ◌∙◌, ap, arith}
 use Rattle.std.specs.Bool.{IsTrue}
 use Rattle.std.proofs.lemmas.Bool.Decides.{nat_tests}
 use Rattle.std.proofs.lemmas.List.{take-append-le}

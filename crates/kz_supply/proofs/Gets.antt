@@ -6,13 +6,11 @@ use Rattle.std.proofs.lemmas.Bool.{false≢true}
 use Rattle.std.proofs.lemmas.List.Elements.{filter-append}
 use Rattle.std.proofs.lemmas.List.Filters.{length-filter_both}
 use Rattle.std.proofs.lemmas.List.Folds.{find-append}
-use Rattle.kz_supply.specs.declared.ready.Readied.{Readied}
-use Rattle.kz_supply.specs.declared.ready.Readied.TheVariants as readied
 use Rattle.kz_model.specs.declared.record.ZoneParams.{ZoneParams}
 use Rattle.kz_model.specs.declared.supply.Ask.TheVariants.{Back}
 use Rattle.kz_model.specs.declared.supply.Answer.{Answer}
 use Rattle.kz_supply.specs.Exchange.{Exchange}
-use Rattle.kz_supply.specs.Ready.{Ready, is_back, is_grant, backs_in, has_asked, answers_ready, exchange_ready, base_of}
+use Rattle.kz_supply.specs.Ready.{Ready, ReadyAnswer, NoAnswer, ForChunk, ForFrames, is_back, is_grant, backs_in, has_asked, answers_ready, exchange_ready, base_of}
 
 -- what one more exchange adds to the backs
 pub backs_in-push : (exchanges : List Exchange) (e : Exchange) → backs_in (exchanges ++ e ∷ []) ≡ backs_in exchanges + cond (is_back e.0) 1 0
@@ -38,10 +36,10 @@ module _ {X : Type 0} (p : X → Bool) where
       [ true ↦ λ some. absurd (omega (arith, some)) | false ↦ λ rest. none_found xs rest ] none
 
 -- where the zone has asked, no answer is ready
-pub none_ready : (exchanges : List Exchange) (ready : Readied) → length exchanges + answers_ready ready ≤ backs_in exchanges + 1 → has_asked exchanges ≡ true → ready ≡ readied.Nothing
-none_ready exchanges readied.Nothing once asked = refl
-none_ready exchanges (readied.Chunk answer) once asked = absurd (omega (arith, grants_and_backs exchanges, some_pass is_grant exchanges asked))
-none_ready exchanges (readied.Frames answer) once asked = absurd (omega (arith, grants_and_backs exchanges, some_pass is_grant exchanges asked))
+pub none_ready : (exchanges : List Exchange) (ready : ReadyAnswer) → length exchanges + answers_ready ready ≤ backs_in exchanges + 1 → has_asked exchanges ≡ true → ready ≡ NoAnswer
+none_ready exchanges NoAnswer once asked = refl
+none_ready exchanges (ForChunk answer) once asked = absurd (omega (arith, grants_and_backs exchanges, some_pass is_grant exchanges asked))
+none_ready exchanges (ForFrames answer) once asked = absurd (omega (arith, grants_and_backs exchanges, some_pass is_grant exchanges asked))
 
 -- where an answer is ready, the zone has not asked
 none_asked : (exchanges : List Exchange) → length exchanges ≤ backs_in exchanges → find is_grant exchanges ≡ None
@@ -52,14 +50,14 @@ or_none None = refl
 or_none (Some e) = refl
 
 -- what is seen of these fields
-abbrev seen : ZoneParams → ℕ → Readied → List Exchange → List (List (List ℕ)) → Ready
+abbrev seen : ZoneParams → ℕ → ReadyAnswer → List Exchange → List (List (List ℕ)) → Ready
 seen params chunks ready exchanges waiting =
-    record { params = params; chunks = chunks; readied = ready; exchanges = exchanges; handed = backs_in exchanges - length waiting; waiting = waiting }
+    record { params = params; chunks = chunks; ready = ready; exchanges = exchanges; handed = backs_in exchanges - length waiting; waiting = waiting }
 
-module _ (params : ZoneParams) (chunks : ℕ) (ready : Readied) (exchanges : List Exchange) (waiting : List (List (List ℕ))) where
+module _ (params : ZoneParams) (chunks : ℕ) (ready : ReadyAnswer) (exchanges : List Exchange) (waiting : List (List (List ℕ))) where
   -- the answer that was ready is the one that was got
   pub base_after_ask : (e : Exchange) → exchange_ready params ready ≡ Some e → answers_ready ready ≡ 1 → is_back e.0 ≡ false → length exchanges + answers_ready ready ≤ backs_in exchanges + 1 →
-      base_of (seen params chunks readied.Nothing (exchanges ++ e ∷ []) waiting) ≡ base_of (seen params chunks ready exchanges waiting)
+      base_of (seen params chunks NoAnswer (exchanges ++ e ∷ []) waiting) ≡ base_of (seen params chunks ready exchanges waiting)
   base_after_ask e is one asks once =
       let same : backs_in (exchanges ++ e ∷ []) ≡ backs_in exchanges = backs_in-push exchanges e ∙ ap (λ b. backs_in exchanges + cond b 1 0) asks ∙ add-zero (backs_in exchanges) in
       let found : find is_grant (exchanges ++ e ∷ []) ≡ Some e =

@@ -47,27 +47,26 @@ pub struct ReadyPages {
 impl Model for ReadyPages {
     ghost use Rattle.std.specs.Prelude.{◌-◌, length, vec_capacity};
     ghost use Rattle.std.specs.VecDeque.{deque_capacity};
-    ghost use Rattle.kz_supply.specs.Ready.{Ready, IsGot, backs_in};
+    ghost use Rattle.kz_supply.specs.Ready.{Ready, IsGot, backs_in, ready_of};
 
     ghost Value = { Ready };
 
     ghost view = { λ r. record {
       params = r.params;
       chunks = r.chunks;
-      readied = r.readied;
+      ready = ready_of r.readied;
       exchanges =
           r.exchanges.items;
       handed = backs_in r.exchanges.items - length r.waiting.items;
       waiting = r.waiting.items;
     } };
 
-    ghost invariant = { λ r. IsGot r.params r.chunks r.readied r.exchanges.items r.waiting.items
+    ghost invariant = { λ r. IsGot r.params r.chunks (ready_of r.readied) r.exchanges.items r.waiting.items
         (vec_capacity r.exchanges) (deque_capacity r.waiting) };
 }
 
 impl ReadyPages {
-    ghost use Rattle.kz_supply.specs.declared.ready.Readied.TheVariants as readied;
-    ghost use Rattle.kz_supply.specs.Ready.{backs_in, has_asked};
+    ghost use Rattle.kz_supply.specs.Ready.{NoAnswer, ForChunk, ForFrames, backs_in, has_asked};
 
     /// Room for the backs of so many chunks. No answer is ready.
     pub fn new(alloc: Global, params: &ZoneParams, chunks: u32) -> Result<ReadyPages, AllocError>
@@ -75,7 +74,7 @@ impl ReadyPages {
             ≡ record {
               params = params.now;
               chunks = chunks;
-              readied = readied.Nothing;
+              ready = NoAnswer;
               exchanges = [];
               handed =
                   0;
@@ -95,7 +94,7 @@ impl ReadyPages {
 
     /// Begins a visit.
     pub fn start(&mut self)
-        requires idle { self.old.readied ≡ readied.Nothing }
+        requires idle { self.old.ready ≡ NoAnswer }
         requires empty { self.old.waiting ≡ [] }
         ensures { self.new ≡ record self.old { exchanges = []; handed = 0 } }
     {
@@ -104,21 +103,21 @@ impl ReadyPages {
 
     /// Readies an answer to the ask for a chunk.
     pub fn ready_chunk(&mut self, answer: Result<Grant, Denied>)
-        requires idle { self.old.readied ≡ readied.Nothing }
+        requires idle { self.old.ready ≡ NoAnswer }
         requires fresh { self.old.exchanges ≡ [] }
         requires zero { ForOk answer (λ grant. grant.frames ≡ zero_frames self.old.params.pages) }
-        ensures { self.new ≡ record self.old { readied = readied.Chunk answer } }
+        ensures { self.new ≡ record self.old { ready = ForChunk answer } }
     {
         self.readied = Readied::Chunk(answer);
     }
 
     /// Readies an answer to the ask for the frames of a chunk.
     pub fn ready_frames(&mut self, answer: Result<Frames, Denied>)
-        requires idle { self.old.readied ≡ readied.Nothing }
+        requires idle { self.old.ready ≡ NoAnswer }
         requires fresh { self.old.exchanges ≡ [] }
         requires zero { ForOk answer (λ frames. frames ≡ zero_frames self.old.params.pages) }
         requires space { ForErr answer (λ denied. (free : ℕ) × (denied ≡ NoFrames free)) }
-        ensures { self.new ≡ record self.old { readied = readied.Frames answer } }
+        ensures { self.new ≡ record self.old { ready = ForFrames answer } }
     {
         self.readied = Readied::Frames(answer);
     }
@@ -133,7 +132,7 @@ impl ReadyPages {
               + (if is_some result then 1 else 0);
           waiting = drop 1 self.old.waiting;
         } }
-        ensures once { IsTrue (has_asked self.new.exchanges) → self.new.readied ≡ readied.Nothing }
+        ensures once { IsTrue (has_asked self.new.exchanges) → self.new.ready ≡ NoAnswer }
         ensures left { length self.new.waiting + self.new.handed ≡ backs_in self.new.exchanges }
     {
         self.waiting.pop_front()
@@ -142,7 +141,7 @@ impl ReadyPages {
     /// The asks since the start, each with its answer.
     pub fn exchanges(&self) -> &[(Ask, Answer)]
         ensures exchanges { result.now ≡ self.now.exchanges }
-        ensures once { IsTrue (has_asked self.now.exchanges) → self.now.readied ≡ readied.Nothing }
+        ensures once { IsTrue (has_asked self.now.exchanges) → self.now.ready ≡ NoAnswer }
         ensures left { length self.now.waiting + self.now.handed ≡ backs_in self.now.exchanges }
     {
         self.exchanges.as_slice()
@@ -153,9 +152,8 @@ impl Pages for ReadyPages {
     ghost use Rattle.std.specs.Prelude.{◌-◌, IfErr};
     ghost use Rattle.kz_model.specs.declared.supply.Ask.TheVariants.{Back};
     ghost use Rattle.kz_model.specs.declared.supply.Answer.TheVariants.{Taken};
-    ghost use Rattle.kz_supply.specs.declared.ready.Readied.TheVariants as readied;
     ghost use Rattle.kz_supply.specs.Exchange.{ask_for_chunk, ask_for_frames, chunk_answer, frames_answer};
-    ghost use Rattle.kz_supply.specs.Ready.{backs_in, base_of, grants_ready, is_chunk_ready, is_frames_ready};
+    ghost use Rattle.kz_supply.specs.Ready.{NoAnswer, ForChunk, ForFrames, backs_in, base_of, grants_ready, is_chunk_ready, is_frames_ready};
 
     type Base = ReadyBase;
 
@@ -163,19 +161,19 @@ impl Pages for ReadyPages {
       params = r.params;
       exchanges = r.exchanges;
       can_chunk =
-          is_chunk_ready r.readied;
-      can_frames = is_frames_ready r.readied;
+          is_chunk_ready r.ready;
+      can_frames = is_frames_ready r.ready;
       backs =
           r.chunks - backs_in r.exchanges;
-      grants = grants_ready r.readied;
+      grants = grants_ready r.ready;
       base = base_of r;
     } };
 
     fn chunk(&mut self) -> Result<Grant, Denied>
-        requires { IsTrue (is_chunk_ready self.old.readied) }
-        ensures ready { self.old.readied ≡ readied.Chunk result }
+        requires { IsTrue (is_chunk_ready self.old.ready) }
+        ensures ready { self.old.ready ≡ ForChunk result }
         ensures asked { self.new ≡ record self.old {
-          readied = readied.Nothing;
+          ready = NoAnswer;
           exchanges = self.old.exchanges
               ++ (ask_for_chunk self.old.params, chunk_answer result) ∷ [];
         } }
@@ -195,10 +193,10 @@ impl Pages for ReadyPages {
     }
 
     fn frames(&mut self) -> Result<Frames, Denied>
-        requires { IsTrue (is_frames_ready self.old.readied) }
-        ensures ready { self.old.readied ≡ readied.Frames result }
+        requires { IsTrue (is_frames_ready self.old.ready) }
+        ensures ready { self.old.ready ≡ ForFrames result }
         ensures asked { self.new ≡ record self.old {
-          readied = readied.Nothing;
+          ready = NoAnswer;
           exchanges = self.old.exchanges
               ++ (ask_for_frames self.old.params, frames_answer result) ∷ [];
         } }

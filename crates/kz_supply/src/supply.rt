@@ -9,7 +9,7 @@ ghost use Rattle.kz_supply.specs.Supply.{AreAnswered, stock_of, frames_out, with
 
 use crate::{Denied, Grant, ThinSupply};
 use kz_frame::Frames;
-use kz_model::SupplyEntry;
+use kz_model::{Items, SupplyEntry};
 use std::alloc::{AllocError, Global};
 use std::marker::Model;
 
@@ -92,5 +92,12 @@ impl Supply {
         ensures free { (stock_of self.now).free ≤ self.now.frames }
     {
         self.thin.log()
+    }
+
+    /// All asks with their answers, moved out. The frames are let go.
+    pub fn into_log(self) -> Items<SupplyEntry>
+        ensures { result ≡ self.log }
+    {
+        self.thin.into_log()
     }
 }

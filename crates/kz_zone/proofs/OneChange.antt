@@ -1,8 +1,8 @@
 -- One chunk of a zone changes, and its place with it.
-use Rattle.std.proofs.Common.{◌≡◌, ℕ, zero, suc, ◌*◌, ◌<◌, ◌==◌, ◌&&◌, Bool, true, false, if◌then◌else◌, List, [], ◌∷◌, length, map, slice_index_or, slice_set, slice_get, Some, refl, ap, sym, ◌∙◌, subst, arith}
+use Rattle.std.proofs.Common.{◌≡◌, ℕ, zero, suc, ◌*◌, ◌<◌, ◌≤◌, ◌==◌, ◌&&◌, Bool, true, false, if◌then◌else◌, List, [], ◌∷◌, ◌++◌, All, length, length-append, map, slice_index_or, slice_set, slice_get, Some, refl, ap, sym, ◌∙◌, subst, arith}
 use Rattle.std.proofs.Math.Seq.{map-set_same}
-use Rattle.std.proofs.lemmas.List.{length-set, length-map, map-set, get_or-map, set-get_or}
-use Rattle.std.proofs.lemmas.List.Elements.{All-set, All-get_or}
+use Rattle.std.proofs.lemmas.List.{length-set, length-map, map-set, map_push, get_or-map, set-get_or}
+use Rattle.std.proofs.lemmas.List.Elements.{All-set, All-push, All-get_or}
 use Rattle.std.proofs.lemmas.Option.{slice_get-get_or, get_or_from_slice_get}
 use Rattle.kz_model.specs.declared.record.ZoneParams.{ZoneParams}
 use Rattle.kz_model.specs.Zone.State.{Chunk as State, no_chunk, chunk_at}
@@ -30,7 +30,7 @@ idle_within (chunk ∷ chunks) zero h = omega arith
 idle_within (chunk ∷ chunks) (suc k) h = omega (arith, idle_within chunks k h)
 
 -- a chunk that is wholly idle is mapped
-whole_mapped : (count : ℕ) (chunk : State) → is_whole count chunk ≡ true → chunk.mapped ≡ true
+pub whole_mapped : (count : ℕ) (chunk : State) → is_whole count chunk ≡ true → chunk.mapped ≡ true
 whole_mapped count chunk h = by_test chunk.mapped (length chunk.idle == count) h
   where
     by_test : (m w : Bool) → (m && w) ≡ true → m ≡ true
@@ -94,7 +94,7 @@ one_changed p most capacity k chunks shelf left c h lt shape is moved =
     }
 
 -- The chunks with one changed and put in its place on the shelf, where what it keeps is known.
-pub still_chunks : (p : ZoneParams) (most capacity k : ℕ) (chunks : List Chunk) (shelf left : Shelf) (old c : Chunk) (change : State → State) (place : Place) → AreChunks p most capacity chunks shelf → k < length chunks → old ≡ slice_index_or chunks k old → c ≡ record old { state = change old.state } →
+pub still_chunks : {slack : List ℕ} (p : ZoneParams) (most capacity k : ℕ) (chunks : List Chunk) (shelf left : Shelf) (old c : Chunk) (change : State → State) (place : Place) → AreChunks p most capacity chunks shelf → k < length chunks → old ≡ slice_index_or chunks k old → c ≡ record old { state = change old.state; slack = slack } →
     Rises 0 c.shape.count c.state.idle → (c.state.mapped ≡ false → c.state ≡ no_chunk) → (c.state.mapped ≡ true → length c.state.bytes ≡ c.shape.count * c.shape.element) →
     left ≡ record shelf { places = slice_set shelf.places k place } → place ≡ place_of p.count c.state → AreChunks p most capacity (slice_set chunks k c) left
 still_chunks p most capacity k chunks shelf left old c change place h lt read made rises unmapped bytes moved is =
@@ -111,12 +111,37 @@ still_there p most capacity k chunks shelf old c change h lt read made rises unm
     let moved : shelf ≡ record shelf { places = slice_set shelf.places k (place_of p.count old.state) } = ap (λ xs. record shelf { places = xs }) (sym (set_there shelf.places k (place_of p.count old.state) there.place)) in
     still_chunks p most capacity k chunks shelf shelf old c change (place_of p.count old.state) h lt read made rises unmapped bytes moved (sym stays ∙ ap (λ (c : Chunk). place_of p.count c.state) (sym made))
 
+-- ---- one chunk more
+
+all_kept : (p : ZoneParams) (states : List State) (c : State) → ((ordinal : ℕ) → IsChunk p (chunk_at states ordinal)) → IsChunk p c → (ordinal : ℕ) → IsChunk p (chunk_at (states ++ c ∷ []) ordinal)
+all_kept p [] c h is zero = is
+all_kept p [] c h is (suc ordinal) = h zero
+all_kept p (s ∷ states) c h is zero = h zero
+all_kept p (s ∷ states) c h is (suc ordinal) = all_kept p states c (λ k. h (suc k)) is ordinal
+
+pub one_added : (p : ZoneParams) (most capacity room : ℕ) (chunks all : List Chunk) (shelf left : Shelf) (c : Chunk) → AreChunks p most capacity chunks shelf → length chunks < most → capacity ≤ room → all ≡ chunks ++ c ∷ [] → c.shape ≡ shape_of p → IsChunk p c.state →
+    left ≡ record shelf { places = shelf.places ++ place_of p.count c.state ∷ [] } → AreChunks p most room all left
+one_added p most capacity room chunks all shelf left c h lt more is shape kept moved =
+    let states : states_of all ≡ states_of chunks ++ c.state ∷ [] = ap states_of is ∙ map_push (λ (chunk : Chunk). chunk.state) chunks c in
+    record {
+      fit = h.fit;
+      few = omega (arith, lt, ap length is, length-append chunks (c ∷ []));
+      most_chunks = h.most_chunks;
+      enough = omega (arith, h.enough, more);
+      shelf_room = ap (λ (s : Shelf). s.room) moved ∙ h.shelf_room;
+      places = ap (λ (s : Shelf). s.places) moved ∙ ap (λ xs. xs ++ place_of p.count c.state ∷ []) h.places ∙ sym (map_push (place_of p.count) (states_of chunks) c.state) ∙ ap (map (place_of p.count)) (sym states);
+      shapes = subst (All (λ (chunk : Chunk). chunk.shape ≡ shape_of p)) (sym is) (All-push (λ (chunk : Chunk). chunk.shape ≡ shape_of p) chunks c h.shapes shape);
+      kept = λ ordinal. subst (λ xs. IsChunk p (chunk_at xs ordinal)) (sym states) (all_kept p (states_of chunks) c.state h.kept kept ordinal);
+    }
+
+-- ---- what is seen of it
+
 -- a chunk that was seen there
 pub seen_within : (z : Seen) (p : ZoneParams) (most k : ℕ) (chunks : List Chunk) → seen p most chunks ≡ z → k < length z.chunks → k < length chunks
 seen_within z p most k chunks is lt = omega (arith, length-map chunks (λ chunk. chunk.state), ap (λ (z : Seen). length z.chunks) is)
 
 -- the zone's chunks with this one changed so
-pub seen_changed : (z : Seen) (p : ZoneParams) (most k : ℕ) (chunks : List Chunk) (old c : Chunk) (change : State → State) → seen p most chunks ≡ z → k < length chunks → old ≡ slice_index_or chunks k old → c ≡ record old { state = change old.state } →
+pub seen_changed : {slack : List ℕ} (z : Seen) (p : ZoneParams) (most k : ℕ) (chunks : List Chunk) (old c : Chunk) (change : State → State) → seen p most chunks ≡ z → k < length chunks → old ≡ slice_index_or chunks k old → c ≡ record old { state = change old.state; slack = slack } →
     seen p most (slice_set chunks k c) ≡ record z { chunks = slice_set z.chunks k (change (chunk_at z.chunks k)) }
 seen_changed z p most k chunks old c change is lt read made =
     let F : Seen → Seen = λ z. record z { chunks = slice_set z.chunks k (change (chunk_at z.chunks k)) } in

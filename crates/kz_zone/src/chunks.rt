@@ -4,7 +4,7 @@ ghost use Rattle.kz_model.specs.Zone.State.{Chunk as State, chunk_at, no_chunk};
 ghost use Rattle.kz_model.specs.Zone.Pick.{is_whole, has_idle, chunk_to_pick, element_to_pick, without_idle, fresh_chunk, unmapped_place};
 ghost use Rattle.kz_model.specs.Zone.Rules.{with_idle, first_byte};
 ghost use Rattle.kz_model.specs.Zone.Whole.{IsChunk, times_idle};
-ghost use Rattle.kz_frame.specs.Frames.{zero_frames};
+ghost use Rattle.kz_frame.specs.Frames.{joined, zero_frames};
 ghost use Rattle.kz_zone.specs.Room.{AreFitParams};
 ghost use Rattle.kz_zone.specs.Zone.{place_of};
 ghost use Rattle.kz_zone.specs.Chunks.{shape_of};
@@ -191,11 +191,13 @@ impl Chunks {
         settle(&mut self.shelf, ordinal, before, after);
     }
 
-    /// Unmaps a chunk that is wholly idle.
+    /// Unmaps a chunk that is wholly idle. The bytes of its elements are in the frames that it gives.
     pub fn unmap(&mut self, ordinal: u32) -> Frames
         requires { is_whole self.old.params.count (chunk_at self.old.chunks ordinal) ≡ true }
         ensures left { self.new ≡ record self.old { chunks = slice_set self.old.chunks ordinal no_chunk } }
         ensures frames { length result ≡ self.old.params.pages }
+        ensures bytes { take (self.old.params.count * self.old.params.element) (joined result)
+            ≡ (chunk_at self.old.chunks ordinal).bytes }
     {
         let chunk = &mut self.chunks[ordinal as usize];
         let before = place_of(chunk, self.params.count);
