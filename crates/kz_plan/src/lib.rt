@@ -19,5 +19,8 @@ mod zones;
 pub use division::share;
 pub use fault::PlanFault;
 pub use grouping::general_classes;
-pub use laws::{plans_are_fit, shares_are_fair, signatures_are_dealt_once};
+pub use laws::{
+    like_types_share_a_zone, plans_are_fit, shares_are_fair, signatures_are_dealt_once,
+    types_have_zones_of_their_class,
+};
 pub use planning::plan;
