@@ -11,12 +11,13 @@ pub fn signatures_are_dealt_once()
     ensures kept { ShufflesKeepAll }
 {}
 
-/// The plan of a valid bundle has a zone for each type, each with the chunk of a class.
+/// The plan of a valid bundle has a zone for each type, and each zone has a chunk that it may have, in a submap.
 pub fn plans_are_fit()
     ensures { PlansAreFit }
 {}
 
-/// The zone of a type is of the type's class, and it is a data zone, in the submap for data, where the type is data-only.
+/// A type's zone has the chunk of the type's class. It is a data zone, in the submap for data, exactly where the type is
+/// data-only.
 pub fn types_have_zones_of_their_class()
     ensures class { ZonesHaveTheClass }
     ensures kind { DataZonesAreForData }

@@ -5,7 +5,8 @@
 //! is too short is refused before memory is asked for.
 //!
 //! Contract: the plan is the definition's, or the budget is short, with the number of classes in use. Laws say that no
-//! other division is fairer, that each signature is dealt once, and that a plan has a fit zone for each type.
+//! other division is fairer, that each signature is dealt once, that a plan has a fit zone of its own class for each
+//! type, and which types always or never share a zone.
 #![tactic(auto)]
 
 mod dealing;
