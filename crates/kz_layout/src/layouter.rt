@@ -88,12 +88,13 @@ impl<'a> Layouter<'a> {
 
     /// Lays out the next declaration.
     ///
-    /// A fault is the first one of all declarations, whichever follow. After a fault the layouter may be in any state.
+    /// A fault is the first one of all declarations, whichever follow.
     pub fn add(&mut self, decl: &TypeDecl) -> Result<(), LayoutCause>
         requires { All (IsSoundField 8) decl.now.fields }
         ensures names { self.new.names ≡ self.old.names }
         ensures ok { IfOk result (λ _. (decls : List TypeDecl) → HasLaidOut self.old decls →
             HasLaidOut self.new (decls ++ decl.now ∷ [])) }
+        ensures unchanged { IfErr result (λ _. self.new ≡ self.old) }
         ensures fault { IfErr result (λ cause. cause ≢ LayoutCause.Memory → (decls more : List TypeDecl) →
             HasLaidOut self.old decls → names_of (decls ++ decl.now ∷ more) ≡ self.old.names →
             layouts_of (decls ++ decl.now ∷ more) ≡ Err (record { at = length decls; cause = cause })) }

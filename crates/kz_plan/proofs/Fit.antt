@@ -4,7 +4,7 @@ use Rattle.std.proofs.Math.ListN.{get_or}
 use Rattle.std.proofs.Math.Nat.{mod-lt}
 use Rattle.std.proofs.lemmas.List.{length-append, length-map}
 use Rattle.std.proofs.lemmas.List.Elements.{All-append, All-cons, All-map}
-use Rattle.std.proofs.lemmas.List.FromFn.{length-enumerate_from, length-map-range_with_len}
+use Rattle.std.proofs.lemmas.List.FromFn.{length-enumerate_from}
 use Rattle.std.specs.List.{enumerate_from, flat_map, range_with_len}
 use Rattle.kz_model.specs.declared.bundle.Bundle.{Bundle}
 use Rattle.kz_model.specs.declared.bundle.Seed.{Seed}
@@ -18,6 +18,7 @@ use Rattle.kz_model.specs.Grammar.Valid.{layouts_in, plan_in, IsValid}
 use Rattle.kz_model.specs.Zone.Words.{word}
 use Rattle.kz_class.proofs.Classes.{classes_fit, table_from_test}
 use Rattle.kz_model.proofs.LaidOut.{layouts_of-length}
+use Rattle.kz_plan.proofs.ZoneRows.{general-many}
 use Rattle.kz_plan.proofs.SharesExist.{shares_are_within}
 use Rattle.kz_plan.specs.Homes.{AreInRow, AreZones, HasZone}
 use Rattle.kz_plan.specs.Parts.{counts_of, AreParts}
@@ -56,18 +57,6 @@ deals-below layouts seed drawn first (class ∷ classes) (part ∷ parts) below 
     All-cons (λ deal. deal.class < 32) (record { class = class; first = first; zones = part; order = shuffled seed drawn (signatures layouts class) }) (deals_from (first + part) rest parts)
     (below 0 0 (omega arith))
     (deals-below layouts seed (drawn + (length (signatures layouts class) - 1)) (first + part) classes parts (λ k d inside. below (suc k) d (omega arith)))
-
--- the rows of deals in a row are as many as their zones
-general-many : (seed : Seed) (of_type : List ℕ) (first last : ℕ) (deals : List Deal) → AreInRow first last deals → first + length (flat_map (bucket_rows seed of_type) deals) ≡ last
-general-many seed of_type first last [] row = omega arith
-general-many seed of_type first last (deal ∷ deals) row =
-    omega (
-      arith,
-      row.0,
-      general-many seed of_type (first + deal.zones) last deals row.2,
-      length-append (bucket_rows seed of_type deal) (flat_map (bucket_rows seed of_type) deals),
-      length-map-range_with_len (bucket_row seed of_type deal) 0 deal.zones,
-    )
 
 rows-many : (seed : Seed) (of_type : List ℕ) (deals : List Deal) (general : ℕ) (classes : List ℕ) → AreInRow 0 general deals → length (rows_among seed of_type deals general classes) ≡ general + length classes
 rows-many seed of_type deals general classes row =
@@ -121,23 +110,26 @@ module _ (b : Bundle) (is : IsValid b) where
   abbrev of_type : List ℕ
   of_type = map (zone_among deals general (data_classes layouts)) layouts
 
-  many : length layouts ≡ length b.types
-  many = layouts_of-length b.types layouts is.laid_out
+  pub layouts-many : length layouts ≡ length b.types
+  layouts-many = layouts_of-length b.types layouts is.laid_out
 
   few : length layouts ≤ 1024
-  few = omega (arith, many, is.types.few)
+  few = omega (arith, layouts-many, is.types.few)
 
-  zones : AreZones deals general (data_classes layouts)
-  zones = plan-zones layouts b.budget b.seed few is.enough
+  pub valid-zones : AreZones deals general (data_classes layouts)
+  valid-zones = plan-zones layouts b.budget b.seed few is.enough
+
+  pub valid-there : All (HasZone deals (data_classes layouts)) layouts
+  valid-there = plan-there layouts b.budget b.seed few is.enough
 
   rows : length (plan_in b).zones ≡ general + length (data_classes layouts)
-  rows = rows-many b.seed of_type deals general (data_classes layouts) zones.in_row
+  rows = rows-many b.seed of_type deals general (data_classes layouts) valid-zones.in_row
 
   typed : length of_type ≡ length b.types
-  typed = length-map layouts (zone_among deals general (data_classes layouts)) ∙ many
+  typed = length-map layouts (zone_among deals general (data_classes layouts)) ∙ layouts-many
 
   below : All (λ zone. zone < general + length (data_classes layouts)) of_type
-  below = zones-below layouts deals general (data_classes layouts) of_type zones (plan-there layouts b.budget b.seed few is.enough) refl
+  below = zones-below layouts deals general (data_classes layouts) of_type valid-zones valid-there refl
 
   pub plan-fit : IsFitPlan b (plan_in b)
   plan-fit = record {

@@ -14,3 +14,5 @@ pub mod Fit
 pub mod Shares
 pub mod SharesGrow
 pub mod SharesExist
+pub mod TypeZones
+pub mod TypeLaws

@@ -36,7 +36,7 @@ signature-place q seed drawn all there =
 
 -- ---- classes
 
-same-number : (a b : ℕ) → (a == b) ≡ true → a ≡ b
+pub same-number : (a b : ℕ) → (a == b) ≡ true → a ≡ b
 same-number a b e = grind (arith, nat_tests)
 
 flipped : (a b : ℕ) → (a == b) ≡ (b == a)

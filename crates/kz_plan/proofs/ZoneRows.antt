@@ -94,6 +94,18 @@ pub in_row-next : (first last i : ℕ) (deals : List Deal) (deal : Deal) → Are
 in_row-next first last i deals deal row inside at =
     subst (λ (d : Deal). (d.first ≡ first) × (0 < d.zones) × AreInRow (first + d.zones) last (drop (i + 1) deals)) (sym at) (subst (AreInRow first last) (from_place deals i deal inside) row)
 
+-- the rows of deals in a row are as many as their zones
+pub general-many : (seed : Seed) (of_type : List ℕ) (first last : ℕ) (deals : List Deal) → AreInRow first last deals → first + length (flat_map (bucket_rows seed of_type) deals) ≡ last
+general-many seed of_type first last [] row = omega arith
+general-many seed of_type first last (deal ∷ deals) row =
+    omega (
+      arith,
+      row.0,
+      general-many seed of_type (first + deal.zones) last deals row.2,
+      length-append (bucket_rows seed of_type deal) (flat_map (bucket_rows seed of_type) deals),
+      length-map-range_with_len (bucket_row seed of_type deal) 0 deal.zones,
+    )
+
 -- ---- one row pushed
 
 pub longer : {A : Type 0} (items new : List A) (x : A) → new ≡ items ++ x ∷ [] → length new ≡ length items + 1

@@ -4,3 +4,4 @@ pub mod Parts
 pub mod Laws
 pub mod Sharing
 pub mod ShareLaws
+pub mod ZoneLaws
