@@ -1,0 +1,64 @@
+-- The judgements of a line, in terms of the forms of its place.
+use Rattle.std.specs.Prelude.{◌≡◌, ◌≢◌, ℕ, ◌+◌, ◌≤◌, List, [], ◌∷◌, ◌++◌, length, map, Option, Some, None, Result, Ok, Err}
+use Rattle.kz_model.specs.declared.grammar.Mark.{Mark}
+use Rattle.kz_model.specs.declared.grammar.Mark.TheVariants.{Fine, OutOfRange, BadNumber}
+use Rattle.kz_model.specs.declared.grammar.Place.{Place}
+use Rattle.kz_model.specs.declared.grammar.Place.TheVariants as place
+use Rattle.kz_model.specs.declared.grammar.Cause.{Cause}
+use Rattle.kz_model.specs.declared.grammar.Cause.TheVariants as cause
+use Rattle.kz_model.specs.Grammar.Form.{Line, Draft, line_at, judged}
+use Rattle.kz_grammar.specs.Forms.{Token, Hole, holes_of, HasForm, IsNumber, IsInRange, EachHole, SomeHole}
+
+-- ---- what is wrong with a line
+
+-- none of its place's forms, with any runs of bytes in the places of numbers
+abbrev pub HasNoForm : Place → Draft → List (List ℕ) → Type 0
+HasNoForm p d words = (tokens : List Token) → ¬ HasForm p d words tokens
+
+-- a form, with some run that is no number
+pub record HasBadNumber (p : Place) (d : Draft) (words : List (List ℕ)) : Type 0 where
+  pub tokens : List Token
+  pub form : HasForm p d words tokens
+  pub bad : SomeHole (λ hole. ¬ IsNumber hole) (holes_of tokens)
+
+-- a form, with numbers alone, of which some is out of its range
+pub record IsOutOfRange (p : Place) (d : Draft) (words : List (List ℕ)) : Type 0 where
+  pub tokens : List Token
+  pub form : HasForm p d words tokens
+  pub numbers : EachHole IsNumber (holes_of tokens)
+  pub out : SomeHole (λ hole. ¬ IsInRange hole) (holes_of tokens)
+
+-- a form, with each number in its range
+pub record IsFine (p : Place) (d : Draft) (words : List (List ℕ)) : Type 0 where
+  pub tokens : List Token
+  pub form : HasForm p d words tokens
+  pub within : EachHole IsInRange (holes_of tokens)
+
+-- ---- laws of a line
+
+-- a line has one form, with the same runs
+abbrev pub OneForm : Type 0
+OneForm = (p : Place) (d : Draft) (words : List (List ℕ)) (tokens others : List Token) →
+    HasForm p d words tokens → HasForm p d words others → tokens ≡ others
+
+-- what is found of a line has this mark
+abbrev pub IsMarked : Option (Line × Mark) → Mark → Type 0
+IsMarked found mark = (line : Line) × (found ≡ Some (line, mark))
+
+abbrev pub BadLines : Type 0
+BadLines = (p : Place) (d : Draft) (words : List (List ℕ)) → (line_at p d words ≡ None → HasNoForm p d words) ×
+    (HasNoForm p d words → line_at p d words ≡ None)
+
+abbrev pub BadNumbers : Type 0
+BadNumbers = (p : Place) (d : Draft) (words : List (List ℕ)) →
+    (IsMarked (line_at p d words) BadNumber → HasBadNumber p d words) ×
+    (HasBadNumber p d words → IsMarked (line_at p d words) BadNumber)
+
+abbrev pub OutOfRanges : Type 0
+OutOfRanges = (p : Place) (d : Draft) (words : List (List ℕ)) →
+    (IsMarked (line_at p d words) OutOfRange → IsOutOfRange p d words) ×
+    (IsOutOfRange p d words → IsMarked (line_at p d words) OutOfRange)
+
+abbrev pub FineLines : Type 0
+FineLines = (p : Place) (d : Draft) (words : List (List ℕ)) → (IsMarked (line_at p d words) Fine → IsFine p d words) ×
+    (IsFine p d words → IsMarked (line_at p d words) Fine)
