@@ -1,2 +1,4 @@
 pub mod Rows
+pub mod Marks
 pub mod LineForms
+pub mod Judgements

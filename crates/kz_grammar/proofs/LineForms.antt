@@ -7,7 +7,7 @@ use Rattle.kz_model.specs.declared.grammar.Mark.TheVariants.{Fine, OutOfRange, B
 use Rattle.kz_model.specs.Grammar.Tokens.{is, is_name, is_run, is_hex, number_in, worse}
 use Rattle.kz_model.specs.Grammar.Steps.{NamedStep, Alloc, AllocZero, Free, FreeAs, Give, Take, Read, Write, Flush, Trim, number_line, step_line, gives, reads, writes}
 use Rattle.kz_model.specs.Grammar.Form.{Line, Machine, SeedOf, Cpus, Frames, Pages, Budget, Magazine, Depot, Opens, Does, Break, Orders, Turns, Ends, Draft, is_last, is_head, is_alone, as_line, seed_of, seed_line, header_line, cpu_line, turn_line, line_of_steps, line_of_order}
-use Rattle.kz_bundle.proofs.Choices.{is_same}
+use Rattle.kz_bundle.proofs.Choices.{wrong, is_same}
 use Rattle.kz_grammar.specs.Forms.{Token, Slot, Word, Name, Hex, HasOneOf, numbered_row, numbered, header_rows, step_rows, section_rows, order_rows}
 use Rattle.kz_grammar.specs.Forms as slot
 use Rattle.kz_grammar.proofs.Rows.{Fits, Judged, ByRows, worse_fine, mark_of, row_tokens, fits_row, skip_row, at_row, no_rows}
@@ -85,3 +85,118 @@ step_judged cpus (w ∷ x ∷ y ∷ v ∷ []) =
     skip_row refl (skip_row refl (skip_row refl (skip_row refl (skip_row refl (skip_row refl (at_row _ refl (ap (worse (number_in 0 8191 y).1) (sym (worse_fine (number_in 1 32 v).1))) (at_row _ refl (sym (worse_fine (number_in 0 8191 y).1)) (skip_row refl (skip_row refl no_rows)))))))))
 step_judged cpus (w ∷ x ∷ y ∷ v ∷ u ∷ words) =
     skip_row refl (skip_row refl (skip_row refl (skip_row refl (skip_row refl (skip_row refl (skip_row refl (skip_row refl (skip_row refl (skip_row refl no_rows)))))))))
+
+-- ---- a CPU's section
+
+-- what is found is none where the line begins so
+unless : {rows : List (List Slot)} {words : List (List ℕ)} (test : Bool) {found : Option (Line × Mark)} → (test ≡ true → found ≡ None) → ByRows Line rows words found → ByRows Line rows words (if test then None else found)
+unless {rows} {words} true none judged = subst (ByRows Line rows words) (none refl) judged
+unless false none judged = judged
+
+no_step : (cpus : ℕ) (words : List (List ℕ)) → is_head (codes "cpu") words ≡ true → step_line cpus words ≡ None
+no_step cpus [] e = wrong e
+no_step cpus (w ∷ words) e = subst (λ w. step_line cpus (w ∷ words) ≡ None) (sym (is_same (codes "cpu") w e)) (none words)
+  where
+    none : (words : List (List ℕ)) → step_line cpus (codes "cpu" ∷ words) ≡ None
+    none [] = refl
+    none (x ∷ []) = refl
+    none (x ∷ y ∷ []) = refl
+    none (x ∷ y ∷ v ∷ []) = refl
+    none (x ∷ y ∷ v ∷ u ∷ words) = refl
+
+module _ (cpus : ℕ) where
+  steps_rows : (words : List (List ℕ)) → ByRows Line (step_rows cpus) words (as_line Does (step_line cpus words))
+  steps_rows words = as_line_rows Does (step_judged cpus words)
+
+  no_cpu : (words : List (List ℕ)) → is_head (codes "cpu") words ≡ true → as_line Does (step_line cpus words) ≡ None
+  no_cpu words e = ap (as_line Does) (no_step cpus words e)
+
+  -- after the last CPU's section no other begins
+  last_rows : (words : List (List ℕ)) → ByRows Line (step_rows cpus) words (if is_head (codes "cpu") words then None else as_line Does (step_line cpus words))
+  last_rows words = unless (is_head (codes "cpu") words) (no_cpu words) (steps_rows words)
+
+  -- the next CPU's line, beside step lines
+  module _ (next : ℕ) where
+    abbrev beside : List (List Slot)
+    beside = numbered_row (codes "cpu") next next ∷ step_rows cpus
+
+    opens : (words : List (List ℕ)) → ByRows ℕ (step_rows cpus) words None → ByRows ℕ beside words (number_line (codes "cpu") next next words)
+    opens [] none = skip_row refl none
+    opens (w ∷ []) none = skip_row refl none
+    opens (w ∷ n ∷ []) none = at_row _ refl (sym (worse_fine (number_in next next n).1)) none
+    opens (w ∷ n ∷ x ∷ words) none = skip_row refl none
+
+    none_of_steps : (words : List (List ℕ)) → is_head (codes "cpu") words ≡ true → ByRows ℕ (step_rows cpus) words None
+    none_of_steps words e = let none = subst (ByRows NamedStep (step_rows cpus) words) (no_step cpus words e) (step_judged cpus words) in record { judged = none.judged }
+
+    not_opened : (words : List (List ℕ)) → is_head (codes "cpu") words ≡ false → fits_row (numbered_row (codes "cpu") next next) words ≡ false
+    not_opened [] e = refl
+    not_opened (w ∷ []) e = refl
+    not_opened (w ∷ n ∷ []) e = ap (λ b. b && is_run n) e
+    not_opened (w ∷ n ∷ x ∷ words) e = refl
+
+    beside_rows : (words : List (List ℕ)) → ByRows Line beside words (if is_head (codes "cpu") words then cpu_line next words else as_line Does (step_line cpus words))
+    beside_rows words = by_head (is_head (codes "cpu") words) refl
+      where
+        by_head : (b : Bool) → is_head (codes "cpu") words ≡ b → ByRows Line beside words (if b then cpu_line next words else as_line Does (step_line cpus words))
+        by_head true e = as_line_rows Opens (opens words (none_of_steps words e))
+        by_head false e = skip_row (not_opened words e) (steps_rows words)
+
+and_true_is : (b : Bool) → b ≡ (b && true)
+and_true_is true = refl
+and_true_is false = refl
+
+and_false_is : (b : Bool) → false ≡ (b && false)
+and_false_is true = refl
+and_false_is false = refl
+
+module _ (d : Draft) where
+  abbrev rows_of : Bool → List (List Slot)
+  rows_of last =
+      (Word (codes "--") ∷ [])
+      ∷ (if last then (Word (codes "end") ∷ []) ∷ (Word (codes "order") ∷ []) ∷ step_rows d.header.cpus
+      else numbered_row (codes "cpu") (length d.before + 1) (length d.before + 1) ∷ step_rows d.header.cpus)
+
+  abbrev found : Bool → Bool → Bool → List (List ℕ) → Option (Line × Mark)
+  found last ends orders words =
+      if is_alone (codes "--") words then Some (Break, Fine)
+      else if ends then Some (Ends, Fine)
+      else if orders then Some (Orders, Fine)
+      else if is_head (codes "cpu") words
+      then (if last then None else cpu_line (length d.before + 1) words)
+      else as_line Does (step_line d.header.cpus words)
+
+  by_last : (last : Bool) (words : List (List ℕ)) → ByRows Line (rows_of last) words (found last (is_alone (codes "end") words && last) (is_alone (codes "order") words && last) words)
+  by_last true [] = skip_row refl (skip_row refl (skip_row refl (last_rows d.header.cpus [])))
+  by_last true (w ∷ []) =
+      subst (λ b. ByRows Line (rows_of true) (w ∷ []) (found true b (is (codes "order") w && true) (w ∷ []))) (and_true_is (is (codes "end") w))
+      (subst (λ b. ByRows Line (rows_of true) (w ∷ []) (found true (is (codes "end") w) b (w ∷ []))) (and_true_is (is (codes "order") w))
+      (at_row _ refl refl (at_row _ refl refl (at_row _ refl refl (last_rows d.header.cpus (w ∷ []))))))
+  by_last true (w ∷ x ∷ words) = skip_row refl (skip_row refl (skip_row refl (last_rows d.header.cpus (w ∷ x ∷ words))))
+  by_last false [] = skip_row refl (beside_rows d.header.cpus (length d.before + 1) [])
+  by_last false (w ∷ []) =
+      subst (λ b. ByRows Line (rows_of false) (w ∷ []) (found false b (is (codes "order") w && false) (w ∷ []))) (and_false_is (is (codes "end") w))
+      (subst (λ b. ByRows Line (rows_of false) (w ∷ []) (found false false b (w ∷ []))) (and_false_is (is (codes "order") w))
+      (at_row _ refl refl (beside_rows d.header.cpus (length d.before + 1) (w ∷ []))))
+  by_last false (w ∷ x ∷ words) = skip_row refl (beside_rows d.header.cpus (length d.before + 1) (w ∷ x ∷ words))
+
+  pub section_judged : (words : List (List ℕ)) → ByRows Line (section_rows d) words (line_of_steps d words)
+  section_judged words = by_last (is_last d) words
+
+-- ---- the order
+
+pub order_judged : (d : Draft) (words : List (List ℕ)) → ByRows Line (order_rows d.header.cpus) words (line_of_order d words)
+order_judged d [] = skip_row refl (skip_row refl (skip_row refl no_rows))
+order_judged d (w ∷ []) =
+    let number = number_in 0 (d.header.cpus - 1) w in
+    subst (ByRows Line (order_rows d.header.cpus) (w ∷ [])) (same_choice (is (codes "--") w) (is (codes "end") w) (is_run w) (Break, Fine) (Ends, Fine) number)
+    (at_row _ refl refl (at_row _ refl refl (at_row (Turns number.0, number.1) refl (sym (worse_fine number.1)) no_rows)))
+  where
+    same_choice : (a b c : Bool) (x y : Line × Mark) (n : ℕ × Mark) →
+        (if a then Some x else if b then Some y else if (not a && (not b && true)) && c then Some (Turns n.0, n.1) else None)
+        ≡ (if a then Some x else if b then Some y else as_line Turns (if c then Some n else None))
+    same_choice true b c x y n = refl
+    same_choice false true c x y n = refl
+    same_choice false false true x y n = refl
+    same_choice false false false x y n = refl
+order_judged d (w ∷ x ∷ words) = skip_row refl (skip_row refl (skip_row refl no_rows))
