@@ -1,4 +1,6 @@
 pub mod Rows
 pub mod Marks
 pub mod LineForms
+pub mod Phrases
+pub mod LabelForms
 pub mod Judgements

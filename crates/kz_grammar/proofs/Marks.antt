@@ -28,10 +28,13 @@ read_of run n is = ap number_of is.digits ∙ number_of-decimal n is.small
 is_written : (run : List ℕ) (n : ℕ) → number_of run ≡ Some n → IsWritten n run
 is_written run n e = let is = number_is run n e in record { digits = is.0; small = is.1 }
 
+abbrev ranged : Bool → ℕ → ℕ × Mark
+ranged b n = if b then (n, Fine) else (0, OutOfRange)
+
 hole_marked : (hole : Hole) → IsHoleMarked hole (mark_of_hole hole)
 hole_marked hole = by_number (number_of hole.run) refl
   where
-    by_range : (n : ℕ) → number_of hole.run ≡ Some n → (b : Bool) → is_between hole.low hole.high n ≡ b → IsHoleMarked hole (if b then (n, Fine) else (0, OutOfRange)).1
+    by_range : (n : ℕ) → number_of hole.run ≡ Some n → (b : Bool) → is_between hole.low hole.high n ≡ b → IsHoleMarked hole (ranged b n).1
     by_range n e true within_it =
         (n, is_written hole.run n e, within hole.low n (left (nat_le hole.low n) (nat_le n hole.high) within_it), within n hole.high (right (nat_le hole.low n) (nat_le n hole.high) within_it))
     by_range n e false out = ((n, is_written hole.run n e), λ is. absurd (beside is))

@@ -19,11 +19,6 @@ mark_of_holes (hole ∷ holes) = worse (mark_of_hole hole) (mark_of_holes holes)
 abbrev pub mark_of : List Token → Mark
 mark_of tokens = mark_of_holes (holes_of tokens)
 
-pub worse_fine : (a : Mark) → worse a Fine ≡ a
-worse_fine BadNumber = refl
-worse_fine OutOfRange = refl
-worse_fine Fine = refl
-
 -- ---- what is found
 
 -- What is found of these words is right by these forms: nothing where the words are of no form; else they are of one
