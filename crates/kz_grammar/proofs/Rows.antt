@@ -69,19 +69,19 @@ is_none : (text : List ℕ) (words : List (List ℕ)) → IsNoneOf text words �
 is_none text [] e = refl
 is_none text (word ∷ words) e = and_true (not (is word text)) (is_none_of text words) (differs text word e.0) (is_none text words e.1)
 
-slot_fills : (slot : Slot) (text : List ℕ) → fits_slot slot text ≡ true → Fills (token_at slot text) slot
+pub slot_fills : (slot : Slot) (text : List ℕ) → fits_slot slot text ≡ true → Fills (token_at slot text) slot
 slot_fills (Word word) text e = is_same word text e
 slot_fills Name text e = e
 slot_fills Hex text e = e
 slot_fills (Number words low high) text e = (refl, refl, none_of text words (left (is_none_of text words) (is_run text) e), right (is_none_of text words) (is_run text) e)
 
-slot_text : (slot : Slot) (text : List ℕ) → text ≡ token_text (token_at slot text)
+pub slot_text : (slot : Slot) (text : List ℕ) → text ≡ token_text (token_at slot text)
 slot_text (Word word) text = refl
 slot_text Name text = refl
 slot_text Hex text = refl
 slot_text (Number words low high) text = refl
 
-fills_slot : (token : Token) (slot : Slot) → Fills token slot → fits_slot slot (token_text token) ≡ true
+pub fills_slot : (token : Token) (slot : Slot) → Fills token slot → fits_slot slot (token_text token) ≡ true
 fills_slot (Text text) (Word word) fills = ap (is word) fills ∙ is_itself word
 fills_slot (Text text) Name fills = fills
 fills_slot (Text text) Hex fills = fills
@@ -95,7 +95,7 @@ fills_slot (Counted before hole after) slot fills = absurd fills
 hole_is : (hole : Hole) (low high : ℕ) → hole.low ≡ low → hole.high ≡ high → Run hole ≡ Run (record { low = low; high = high; run = hole.run })
 hole_is hole low high e f = ap (λ (low : ℕ). Run (record { low = low; high = hole.high; run = hole.run })) e ∙ ap (λ (high : ℕ). Run (record { low = low; high = high; run = hole.run })) f
 
-fills_alone : (token : Token) (slot : Slot) → Fills token slot → token ≡ token_at slot (token_text token)
+pub fills_alone : (token : Token) (slot : Slot) → Fills token slot → token ≡ token_at slot (token_text token)
 fills_alone (Text text) (Word word) fills = refl
 fills_alone (Text text) Name fills = refl
 fills_alone (Text text) Hex fills = refl
