@@ -10,10 +10,8 @@ use Rattle.kz_grammar.specs.Forms.{Token, Hole, holes_of, IsForm, HasForm}
 use Rattle.kz_grammar.specs.FormLaws.{HasNoForm, HasBadNumber, IsOutOfRange, IsFine, IsMarked, OneForm, BadLines, BadNumbers, OutOfRanges, FineLines}
 use Rattle.kz_grammar.proofs.Rows.{Fits, Judged, mark_of}
 use Rattle.kz_grammar.proofs.LineForms.{header_judged, section_judged, order_judged}
+use Rattle.kz_grammar.proofs.TypeForms.{types_judged}
 use Rattle.kz_grammar.proofs.Marks.{AreMarked, are_marked, one_mark}
-
-types_judged : (d : Draft) (words : List (List ℕ)) → Judged (IsForm place.Types d) words (line_of_types words)
-types_judged d words = ?
 
 pub line_judged : (p : Place) (d : Draft) (words : List (List ℕ)) → Judged (IsForm p d) words (line_at p d words)
 line_judged (place.Header at) d words = (header_judged at words).judged

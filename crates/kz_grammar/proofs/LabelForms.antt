@@ -191,7 +191,7 @@ no_semicolon text name None is = let plain = label_plain text name is in ap (end
 no_semicolon text name (Some hole) is =
     ap (ends_with 59) (is.text_is ∙ counted_text name hole.run [] ∙ sym (append_assoc name (91 ∷ hole.run) (93 ∷ []))) ∙ last_is (name ++ (91 ∷ hole.run)) 93 59
 
-abbrev ending : Bool → List ℕ
+abbrev pub ending : Bool → List ℕ
 ending true = codes ";"
 ending false = []
 

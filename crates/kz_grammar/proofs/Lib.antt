@@ -5,4 +5,5 @@ pub mod Phrases
 pub mod LabelForms
 pub mod KindForms
 pub mod BodyForms
+pub mod TypeForms
 pub mod Judgements
