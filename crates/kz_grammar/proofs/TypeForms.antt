@@ -37,7 +37,7 @@ module _ (w name : List ℕ) (words : List (List ℕ)) where
       )
 
   module _ (first : w ≡ codes "type") (named : is_name name ≡ true) where
-    whole : (p : Phrase (List Field)) → Begins nothing (only (IsBody 8)) words p → (rest : List (List ℕ)) → p.rest ≡ rest → Judged IsTypeForm all (ended (record { name = name; fields = p.said }, p.mark) rest)
+    whole : (p : Phrase (List Field)) → Begins nothing (only (IsBody 8)) words p → (rest : List (List ℕ)) → p.rest ≡ rest → Judged {A = TypeDecl} IsTypeForm all (ended (record { name = name; fields = p.said }, p.mark) rest)
     whole p begins [] none =
         record {
           tokens = Text (codes "type") ∷ Text name ∷ begins.tokens;
@@ -93,29 +93,29 @@ cpu_head words tokens (inl has) text = by_words words (row_complete (numbered_ro
 
 module _ (F G : List Token → Type 0) (words : List (List ℕ)) where
   only_left : (found : Option (Line × Mark)) → ((tokens : List Token) → G tokens → words ≡ words_of tokens → ⊥) → Judged F words found → Judged (λ tokens. F tokens ⊎ G tokens) words found
-  only_left None no judged = λ tokens form text. by_form tokens text form
+  only_left None never judged = λ tokens form text. by_form tokens text form
     where
       by_form : (tokens : List Token) → words ≡ words_of tokens → F tokens ⊎ G tokens → ⊥
       by_form tokens text (inl form) = judged tokens form text
-      by_form tokens text (inr form) = no tokens form text
-  only_left (Some found) no judged =
+      by_form tokens text (inr form) = never tokens form text
+  only_left (Some found) never judged =
       record { tokens = judged.tokens; form = inl judged.form; text = judged.text; marked = judged.marked; alone = λ others form text. by_form others text form }
     where
       by_form : (others : List Token) → words ≡ words_of others → F others ⊎ G others → others ≡ judged.tokens
       by_form others text (inl form) = judged.alone others form text
-      by_form others text (inr form) = absurd (no others form text)
+      by_form others text (inr form) = absurd (never others form text)
 
   only_right : (found : Option (Line × Mark)) → ((tokens : List Token) → F tokens → words ≡ words_of tokens → ⊥) → Judged G words found → Judged (λ tokens. F tokens ⊎ G tokens) words found
-  only_right None no judged = λ tokens form text. by_form tokens text form
+  only_right None never judged = λ tokens form text. by_form tokens text form
     where
       by_form : (tokens : List Token) → words ≡ words_of tokens → F tokens ⊎ G tokens → ⊥
-      by_form tokens text (inl form) = no tokens form text
+      by_form tokens text (inl form) = never tokens form text
       by_form tokens text (inr form) = judged tokens form text
-  only_right (Some found) no judged =
+  only_right (Some found) never judged =
       record { tokens = judged.tokens; form = inr judged.form; text = judged.text; marked = judged.marked; alone = λ others form text. by_form others text form }
     where
       by_form : (others : List Token) → words ≡ words_of others → F others ⊎ G others → others ≡ judged.tokens
-      by_form others text (inl form) = absurd (no others form text)
+      by_form others text (inl form) = absurd (never others form text)
       by_form others text (inr form) = judged.alone others form text
 
 pub types_judged : (d : Draft) (words : List (List ℕ)) → Judged (IsForm place.Types d) words (line_of_types words)
