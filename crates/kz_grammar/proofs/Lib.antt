@@ -7,3 +7,4 @@ pub mod KindForms
 pub mod BodyForms
 pub mod TypeForms
 pub mod Judgements
+pub mod Causes

@@ -6,7 +6,9 @@ use Rattle.kz_model.specs.declared.grammar.Place.{Place}
 use Rattle.kz_model.specs.declared.grammar.Place.TheVariants as place
 use Rattle.kz_model.specs.declared.grammar.Cause.{Cause}
 use Rattle.kz_model.specs.declared.grammar.Cause.TheVariants as cause
-use Rattle.kz_model.specs.Grammar.Form.{Line, Draft, line_at, judged}
+use Rattle.kz_model.specs.Grammar.Tokens.{tokens_of, lines_of}
+use Rattle.kz_model.specs.Grammar.Form.{Line, Draft, empty_draft, line_at, refused, form_of}
+use Rattle.kz_model.specs.Grammar.Spelling.{line_text, IsAllowed, Leads}
 use Rattle.kz_grammar.specs.Forms.{Token, Hole, holes_of, HasForm, IsNumber, IsInRange, EachHole, SomeHole}
 
 -- ---- what is wrong with a line
@@ -62,3 +64,38 @@ OutOfRanges = (p : Place) (d : Draft) (words : List (List ℕ)) →
 abbrev pub FineLines : Type 0
 FineLines = (p : Place) (d : Draft) (words : List (List ℕ)) → (IsMarked (line_at p d words) Fine → IsFine p d words) ×
     (IsFine p d words → IsMarked (line_at p d words) Fine)
+
+-- ---- laws of a text
+
+-- The lines of the bytes begin with these, which may stand one after the other and lead to this draft. Then comes this
+-- text, which is ended, on the line of this number.
+pub record StandsAt (bytes : List ℕ) (number : ℕ) (d : Draft) (text : List ℕ) : Type 0 where
+  pub lines : List Line
+  pub next : List ℕ
+  pub rest : List (List ℕ)
+  pub parts : lines_of bytes ≡ map line_text lines ++ text ∷ next ∷ rest
+  pub leads : Leads empty_draft 1 lines d
+  pub open_yet : d.place ≢ place.Ended
+  pub nth : number ≡ 1 + length lines
+
+-- so it is of the line of this number, at its place
+pub record IsAtLine (Is : Place → Draft → List (List ℕ) → Type 0) (bytes : List ℕ) (number : ℕ) : Type 0 where
+  pub said : Draft
+  pub text : List ℕ
+  pub stands : StandsAt bytes number said text
+  pub is : Is said.place said (tokens_of text)
+
+-- a text's form has this fault just where it is so of a line
+abbrev pub IsFaultOf : (Place → Draft → List (List ℕ) → Type 0) → Cause → Type 0
+IsFaultOf Is cause = (bytes : List ℕ) (number : ℕ) →
+    (form_of bytes ≡ refused number cause → IsAtLine Is bytes number) ×
+    (IsAtLine Is bytes number → form_of bytes ≡ refused number cause)
+
+abbrev pub FirstBadLine : Type 0
+FirstBadLine = IsFaultOf HasNoForm cause.BadLine
+
+abbrev pub FirstBadNumber : Type 0
+FirstBadNumber = IsFaultOf HasBadNumber cause.BadNumber
+
+abbrev pub FirstOutOfRange : Type 0
+FirstOutOfRange = IsFaultOf IsOutOfRange cause.OutOfRange

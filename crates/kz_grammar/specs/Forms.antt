@@ -81,7 +81,7 @@ header_rows at =
     if at == 0 then numbered (codes "machine") 1 1
     else if at == 1
     then (Word (codes "seed") ∷ Word (codes "plain") ∷ [])
-        ∷ (Word (codes "seed") ∷ Number (codes "plain" ∷ []) 0 (2 ^ 64 - 1) ∷ []) ∷ []
+    ∷ (Word (codes "seed") ∷ Number (codes "plain" ∷ []) 0 (2 ^ 64 - 1) ∷ []) ∷ []
     else if at == 2 then numbered (codes "cpus") 1 16
     else if at == 3 then numbered (codes "frames") 1 8192
     else if at == 4 then numbered (codes "pages") 1 4096

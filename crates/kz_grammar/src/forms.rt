@@ -1,5 +1,5 @@
 //! Laws over the forms of lines, each the contract of a function that does nothing.
-ghost use Rattle.kz_grammar.specs.FormLaws.{OneForm, BadLines, BadNumbers, OutOfRanges, FineLines};
+ghost use Rattle.kz_grammar.specs.FormLaws.{OneForm, BadLines, BadNumbers, OutOfRanges, FineLines, FirstBadLine, FirstBadNumber, FirstOutOfRange};
 
 /// A line has one form of its place at most, and one run in each place of a number.
 pub fn a_line_has_one_form()
@@ -12,4 +12,11 @@ pub fn lines_are_judged_by_forms()
     ensures numbers { BadNumbers }
     ensures ranges { OutOfRanges }
     ensures fine { FineLines }
+{}
+
+/// A text's form has one of these faults just where the line of that number has it at its place.
+pub fn texts_are_judged_by_lines()
+    ensures bad { FirstBadLine }
+    ensures numbers { FirstBadNumber }
+    ensures ranges { FirstOutOfRange }
 {}
