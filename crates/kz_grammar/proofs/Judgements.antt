@@ -6,8 +6,9 @@ use Rattle.kz_model.specs.declared.grammar.Place.{Place}
 use Rattle.kz_model.specs.declared.grammar.Place.TheVariants as place
 use Rattle.kz_model.specs.Grammar.Form.{Line, Draft, line_at, line_of_types}
 use Rattle.kz_bundle.proofs.Choices.{found_same, none_found}
+use Rattle.kz_bundle.proofs.LineTexts.{InHeader, line_says}
 use Rattle.kz_grammar.specs.Forms.{Token, Hole, holes_of, IsForm, HasForm}
-use Rattle.kz_grammar.specs.FormLaws.{HasNoForm, HasBadNumber, IsOutOfRange, IsFine, IsMarked, OneForm, BadLines, BadNumbers, OutOfRanges, FineLines}
+use Rattle.kz_grammar.specs.FormLaws.{HasNoForm, HasBadNumber, IsOutOfRange, IsFine, IsMarked, OneForm, BadLines, BadNumbers, OutOfRanges, FineLines, IsPlace, FineLinesSay}
 use Rattle.kz_grammar.proofs.Rows.{Fits, Judged, mark_of}
 use Rattle.kz_grammar.proofs.LineForms.{header_judged, section_judged, order_judged}
 use Rattle.kz_grammar.proofs.TypeForms.{types_judged}
@@ -89,3 +90,13 @@ fine_lines p d words =
       λ is. let has = mark_says p d words found Fine judged is in record { tokens = has.tokens; form = has.form; within = has.marked },
       λ has. says_mark p d words found Fine judged (record { tokens = has.tokens; form = has.form; marked = has.within }),
     )
+
+pub fine_lines_say : FineLinesSay
+fine_lines_say p d text line here e = line_says p d text line (in_header p here) e
+  where
+    in_header : (p : Place) → IsPlace p → InHeader p
+    in_header (place.Header at) here = here
+    in_header place.Types here = tt
+    in_header place.Steps here = tt
+    in_header place.Order here = tt
+    in_header place.Ended here = tt

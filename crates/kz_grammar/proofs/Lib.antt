@@ -8,3 +8,4 @@ pub mod BodyForms
 pub mod TypeForms
 pub mod Judgements
 pub mod Causes
+pub mod TextForms

@@ -18,7 +18,7 @@ words_append (token ∷ tokens) others = ap (λ (words : List (List ℕ)). token
 pub two_texts : (tokens others : List Token) (rest : List (List ℕ)) → words_of (tokens ++ others) ++ rest ≡ words_of tokens ++ (words_of others ++ rest)
 two_texts tokens others rest = ap (λ (words : List (List ℕ)). words ++ rest) (words_append tokens others) ∙ append_assoc (words_of tokens) (words_of others) rest
 
-holes_append : (tokens others : List Token) → holes_of (tokens ++ others) ≡ holes_of tokens ++ holes_of others
+pub holes_append : (tokens others : List Token) → holes_of (tokens ++ others) ≡ holes_of tokens ++ holes_of others
 holes_append [] others = refl
 holes_append (Text text ∷ tokens) others = holes_append tokens others
 holes_append (Run hole ∷ tokens) others = ap (λ (holes : List Hole). hole ∷ holes) (holes_append tokens others)

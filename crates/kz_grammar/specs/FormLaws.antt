@@ -9,7 +9,7 @@ use Rattle.kz_model.specs.declared.grammar.Cause.TheVariants as cause
 use Rattle.kz_model.specs.Grammar.Tokens.{tokens_of, lines_of}
 use Rattle.kz_model.specs.Grammar.Form.{Line, Draft, empty_draft, line_at, refused, form_of}
 use Rattle.kz_model.specs.Grammar.Spelling.{line_text, IsAllowed, Leads}
-use Rattle.kz_grammar.specs.Forms.{Token, Hole, holes_of, HasForm, IsNumber, IsInRange, EachHole, SomeHole}
+use Rattle.kz_grammar.specs.Forms.{Token, Hole, holes_of, HasForm, IsTextOf, IsNumber, IsInRange, EachHole, SomeHole}
 
 -- ---- what is wrong with a line
 
@@ -64,6 +64,22 @@ OutOfRanges = (p : Place) (d : Draft) (words : List (List ℕ)) →
 abbrev pub FineLines : Type 0
 FineLines = (p : Place) (d : Draft) (words : List (List ℕ)) → (IsMarked (line_at p d words) Fine → IsFine p d words) ×
     (IsFine p d words → IsMarked (line_at p d words) Fine)
+
+-- a place of a text: the header has eight lines
+abbrev pub IsPlace : Place → Type 0
+IsPlace (place.Header at) = at ≤ 7
+IsPlace other = Unit {0}
+
+-- a line with each number in its range is the text of what it says, which may stand there
+abbrev pub FineLinesSay : Type 0
+FineLinesSay = (p : Place) (d : Draft) (text : List ℕ) (line : Line) → IsPlace p →
+    line_at p d (tokens_of text) ≡ Some (line, Fine) → (text ≡ line_text line) × IsAllowed p d line
+
+-- the tokens of a text are those of a form just where the text is that of the form
+abbrev pub FormsAreTexts : Type 0
+FormsAreTexts = (p : Place) (d : Draft) (text : List ℕ) (tokens : List Token) →
+    (HasForm p d (tokens_of text) tokens → IsTextOf p d text tokens) ×
+    (IsTextOf p d text tokens → HasForm p d (tokens_of text) tokens)
 
 -- ---- laws of a text
 

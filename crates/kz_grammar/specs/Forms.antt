@@ -1,5 +1,6 @@
 -- The forms of lines: what each place of a text allows, with any run of bytes in the places of numbers.
-use Rattle.std.specs.Prelude.{◌≡◌, ◌⊎◌, ℕ, zero, suc, ◌+◌, ◌-◌, ◌^◌, ◌<◌, ◌≤◌, ◌==◌, if◌then◌else◌, List, [], ◌∷◌, ◌++◌, length, codes, decimal, Option, Some, None, IsTrue}
+use Rattle.std.specs.Prelude.{◌≡◌, ◌⊎◌, ℕ, zero, suc, ◌+◌, ◌-◌, ◌^◌, ◌<◌, ◌≤◌, ◌==◌, not, if◌then◌else◌, List, [], ◌∷◌, ◌++◌, length, codes, decimal, Option, Some, None, IsTrue}
+use Rattle.std.specs.List.{list_all, join_with_byte}
 use Rattle.kz_model.specs.declared.grammar.Place.{Place}
 use Rattle.kz_model.specs.declared.grammar.Place.TheVariants as place
 use Rattle.kz_model.specs.Grammar.Tokens.{is_name, is_run, is_hex}
@@ -35,6 +36,18 @@ holes_of [] = []
 holes_of (Text text ∷ tokens) = holes_of tokens
 holes_of (Run hole ∷ tokens) = hole ∷ holes_of tokens
 holes_of (Counted before hole after ∷ tokens) = hole ∷ holes_of tokens
+
+abbrev pub EachHole : (Hole → Type 0) → List Hole → Type 0
+EachHole P [] = Unit {0}
+EachHole P (hole ∷ holes) = P hole × EachHole P holes
+
+abbrev pub SomeHole : (Hole → Type 0) → List Hole → Type 0
+SomeHole P [] = ⊥
+SomeHole P (hole ∷ holes) = P hole ⊎ SomeHole P holes
+
+-- a run has no space
+abbrev pub HasNoSpace : Hole → Type 0
+HasNoSpace hole = IsTrue (list_all (λ byte. not (byte == 32)) hole.run)
 
 -- ---- forms that are rows of a table
 
@@ -209,6 +222,13 @@ pub record HasForm (p : Place) (d : Draft) (words : List (List ℕ)) (tokens : L
   pub form : IsForm p d tokens
   pub text : words ≡ words_of tokens
 
+-- The text is that of a form of this place: its tokens are parted by exactly one space, and the runs in the places of
+-- its numbers have none.
+pub record IsTextOf (p : Place) (d : Draft) (text : List ℕ) (tokens : List Token) : Type 0 where
+  pub form : IsForm p d tokens
+  pub runs : EachHole HasNoSpace (holes_of tokens)
+  pub whole : text ≡ join_with_byte 32 (words_of tokens)
+
 -- ---- numbers
 
 -- `0`, or digits without a leading zero, below 2^64
@@ -221,11 +241,3 @@ IsNumber hole = (n : ℕ) × IsWritten n hole.run
 
 abbrev pub IsInRange : Hole → Type 0
 IsInRange hole = (n : ℕ) × IsWritten n hole.run × (hole.low ≤ n) × (n ≤ hole.high)
-
-abbrev pub EachHole : (Hole → Type 0) → List Hole → Type 0
-EachHole P [] = Unit {0}
-EachHole P (hole ∷ holes) = P hole × EachHole P holes
-
-abbrev pub SomeHole : (Hole → Type 0) → List Hole → Type 0
-SomeHole P [] = ⊥
-SomeHole P (hole ∷ holes) = P hole ⊎ SomeHole P holes

@@ -1,5 +1,5 @@
 //! Laws over the forms of lines, each the contract of a function that does nothing.
-ghost use Rattle.kz_grammar.specs.FormLaws.{OneForm, BadLines, BadNumbers, OutOfRanges, FineLines, FirstBadLine, FirstBadNumber, FirstOutOfRange};
+ghost use Rattle.kz_grammar.specs.FormLaws.{OneForm, BadLines, BadNumbers, OutOfRanges, FineLines, FirstBadLine, FirstBadNumber, FirstOutOfRange, FineLinesSay, FormsAreTexts};
 
 /// A line has one form of its place at most, and one run in each place of a number.
 pub fn a_line_has_one_form()
@@ -12,6 +12,7 @@ pub fn lines_are_judged_by_forms()
     ensures numbers { BadNumbers }
     ensures ranges { OutOfRanges }
     ensures fine { FineLines }
+    ensures says { FineLinesSay }
 {}
 
 /// A text's form has one of these faults just where the line of that number has it at its place.
@@ -19,4 +20,9 @@ pub fn texts_are_judged_by_lines()
     ensures bad { FirstBadLine }
     ensures numbers { FirstBadNumber }
     ensures ranges { FirstOutOfRange }
+{}
+
+/// The forms of a line's tokens are forms of its text.
+pub fn forms_are_texts()
+    ensures { FormsAreTexts }
 {}

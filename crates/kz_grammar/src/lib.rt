@@ -8,4 +8,4 @@
 
 mod forms;
 
-pub use forms::{a_line_has_one_form, lines_are_judged_by_forms, texts_are_judged_by_lines};
+pub use forms::{a_line_has_one_form, forms_are_texts, lines_are_judged_by_forms, texts_are_judged_by_lines};
