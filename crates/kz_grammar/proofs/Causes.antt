@@ -12,20 +12,16 @@ use Rattle.kz_model.specs.declared.grammar.Refusal.{Refusal}
 use Rattle.kz_model.specs.Grammar.Tokens.{tokens_of, lines_of}
 use Rattle.kz_model.specs.Grammar.Steps.{NamedStep}
 use Rattle.kz_model.specs.Grammar.Form.{Line, Machine, SeedOf, Cpus, Frames, Pages, Budget, Magazine, Depot, Declares, Opens, Does, Break, Orders, Turns, Ends, Draft, empty_draft, line_at, with_type, with_step, with_break, with_line, judged, after_line, refused, rest_at, go_on, form_from, form_of}
+use Rattle.kz_model.specs.declared.bundle.Bundle.{Bundle}
+use Rattle.kz_model.specs.Grammar.Stages.{later_fault, bundle_of, unless, after_form}
 use Rattle.kz_model.specs.Grammar.Spelling.{line_text, IsAllowed, Leads}
 use Rattle.kz_bundle.proofs.Choices.{found_same, none_found, err_not}
 use Rattle.kz_bundle.proofs.Walking.{IsReached, leads_to, fails, reached_more, reached_first, formed, in_header, fits_reached, Stepped, after_line_is, after_line_reads, some_line}
-use Rattle.kz_grammar.specs.FormLaws.{HasNoForm, HasBadNumber, IsOutOfRange, IsMarked, StandsAt, IsAtLine, IsFaultOf, FirstBadLine, FirstBadNumber, FirstOutOfRange}
+use Rattle.kz_grammar.specs.FormLaws.{HasNoForm, HasBadNumber, IsOutOfRange, IsMarked, StandsAt, IsAtLine, IsFormFault, IsFirstOf, BadLineForms, BadNumberForms, OutOfRangeForms, FirstBadLine, FirstBadNumber, FirstOutOfRange}
+use Rattle.kz_grammar.proofs.LaterFaults.{OfLine, IsLater, is_later}
 use Rattle.kz_grammar.proofs.Judgements.{bad_lines, bad_numbers, out_of_ranges}
 
 -- ---- causes of a line
-
--- what a line alone is refused for
-abbrev OfLine : Cause → Type 0
-OfLine cause.BadLine = Unit {0}
-OfLine cause.BadNumber = Unit {0}
-OfLine cause.OutOfRange = Unit {0}
-OfLine other = ⊥
 
 fails_same : (a b : Cause) → fails a ≡ fails b → a ≡ b
 fails_same a b e = cc
@@ -205,6 +201,15 @@ fails_from d number (line ∷ lines) end text next rest k c reached leads nth fa
 
 -- ---- a whole text
 
+abbrev unread : Refusal → Result Bundle Refusal
+unread refusal = Err refusal
+
+unread_same : (a b : Refusal) → unread a ≡ unread b → a ≡ b
+unread_same a b e = cc
+
+unread_not : {P : Type 0} (b : Bundle) (refusal : Refusal) → Ok b ≡ unread refusal → P
+unread_not b refusal e = err_not Bundle Refusal refusal b (sym e)
+
 module _ (Is : Place → Draft → List (List ℕ) → Type 0) (c : Cause) (of : OfLine c) (to : (p : Place) (d : Draft) (words : List (List ℕ)) → Means c (line_at p d words) → Is p d words)
     (from : (p : Place) (d : Draft) (words : List (List ℕ)) → Is p d words → Means c (line_at p d words)) where
   found_at : (bytes : List ℕ) (number : ℕ) → form_of bytes ≡ refused number c → IsAtLine Is bytes number
@@ -234,14 +239,38 @@ module _ (Is : Place → Draft → List (List ℕ) → Type 0) (c : Cause) (of :
       ∙ fails_from empty_draft 1 stands.lines line.said line.text stands.next stands.rest number c reached_first stands.leads stands.nth
       (means_after line.said number line.said.place (tokens_of line.text) c stands.open_yet (from line.said.place line.said (tokens_of line.text) line.is))
 
-  is_fault : IsFaultOf Is c
+  is_fault : IsFormFault Is c
   is_fault bytes number = (found_at bytes number, at_line bytes number)
 
+  -- the first fault of all stages
+  is_first : IsFirstOf Is c
+  is_first bytes number = (
+    λ e. found_at bytes number (form_fault (form_of bytes) e),
+    λ line. ap after_form (at_line bytes number line),
+  )
+    where
+      by_later : (d : Draft) (fault : Option Refusal) → IsLater fault → unless d fault ≡ unread (refusal_at number c) → ⊥
+      by_later d None later e = unread_not (bundle_of d) (refusal_at number c) e
+      by_later d (Some refusal) later e = later (subst OfLine (sym (ap (λ (r : Refusal). r.cause) (unread_same refusal (refusal_at number c) e))) of)
+
+      form_fault : (o : Result Draft Refusal) → after_form o ≡ unread (refusal_at number c) → o ≡ refuses (refusal_at number c)
+      form_fault (Err refusal) e = ap refuses (unread_same refusal (refusal_at number c) e)
+      form_fault (Ok d) e = absurd (by_later d (later_fault d) (is_later d) e)
+
+pub bad_line_forms : BadLineForms
+bad_line_forms = is_fault HasNoForm cause.BadLine tt (λ p d words. (bad_lines p d words).0) (λ p d words. (bad_lines p d words).1)
+
+pub bad_number_forms : BadNumberForms
+bad_number_forms = is_fault HasBadNumber cause.BadNumber tt (λ p d words. (bad_numbers p d words).0) (λ p d words. (bad_numbers p d words).1)
+
+pub out_of_range_forms : OutOfRangeForms
+out_of_range_forms = is_fault IsOutOfRange cause.OutOfRange tt (λ p d words. (out_of_ranges p d words).0) (λ p d words. (out_of_ranges p d words).1)
+
 pub first_bad_line : FirstBadLine
-first_bad_line = is_fault HasNoForm cause.BadLine tt (λ p d words. (bad_lines p d words).0) (λ p d words. (bad_lines p d words).1)
+first_bad_line = is_first HasNoForm cause.BadLine tt (λ p d words. (bad_lines p d words).0) (λ p d words. (bad_lines p d words).1)
 
 pub first_bad_number : FirstBadNumber
-first_bad_number = is_fault HasBadNumber cause.BadNumber tt (λ p d words. (bad_numbers p d words).0) (λ p d words. (bad_numbers p d words).1)
+first_bad_number = is_first HasBadNumber cause.BadNumber tt (λ p d words. (bad_numbers p d words).0) (λ p d words. (bad_numbers p d words).1)
 
 pub first_out_of_range : FirstOutOfRange
-first_out_of_range = is_fault IsOutOfRange cause.OutOfRange tt (λ p d words. (out_of_ranges p d words).0) (λ p d words. (out_of_ranges p d words).1)
+first_out_of_range = is_first IsOutOfRange cause.OutOfRange tt (λ p d words. (out_of_ranges p d words).0) (λ p d words. (out_of_ranges p d words).1)

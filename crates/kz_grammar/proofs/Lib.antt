@@ -7,5 +7,6 @@ pub mod KindForms
 pub mod BodyForms
 pub mod TypeForms
 pub mod Judgements
+pub mod LaterFaults
 pub mod Causes
 pub mod TextForms

@@ -8,7 +8,7 @@ use Rattle.kz_model.specs.declared.grammar.Cause.{Cause}
 use Rattle.kz_model.specs.declared.grammar.Cause.TheVariants as cause
 use Rattle.kz_model.specs.Grammar.Tokens.{tokens_of, lines_of}
 use Rattle.kz_model.specs.Grammar.Form.{Line, Draft, empty_draft, line_at, refused, form_of}
-use Rattle.kz_model.specs.Grammar.Spelling.{line_text, IsAllowed, Leads}
+use Rattle.kz_model.specs.Grammar.Spelling.{line_text, IsAllowed, Leads, IsFirstFault}
 use Rattle.kz_grammar.specs.Forms.{Token, Hole, holes_of, HasForm, IsTextOf, IsNumber, IsInRange, EachHole, SomeHole}
 
 -- ---- what is wrong with a line
@@ -102,16 +102,31 @@ pub record IsAtLine (Is : Place → Draft → List (List ℕ) → Type 0) (bytes
   pub is : Is said.place said (tokens_of text)
 
 -- a text's form has this fault just where it is so of a line
-abbrev pub IsFaultOf : (Place → Draft → List (List ℕ) → Type 0) → Cause → Type 0
-IsFaultOf Is cause = (bytes : List ℕ) (number : ℕ) →
+abbrev pub IsFormFault : (Place → Draft → List (List ℕ) → Type 0) → Cause → Type 0
+IsFormFault Is cause = (bytes : List ℕ) (number : ℕ) →
     (form_of bytes ≡ refused number cause → IsAtLine Is bytes number) ×
     (IsAtLine Is bytes number → form_of bytes ≡ refused number cause)
 
+abbrev pub BadLineForms : Type 0
+BadLineForms = IsFormFault HasNoForm cause.BadLine
+
+abbrev pub BadNumberForms : Type 0
+BadNumberForms = IsFormFault HasBadNumber cause.BadNumber
+
+abbrev pub OutOfRangeForms : Type 0
+OutOfRangeForms = IsFormFault IsOutOfRange cause.OutOfRange
+
+-- and it is then the first fault of the bytes
+abbrev pub IsFirstOf : (Place → Draft → List (List ℕ) → Type 0) → Cause → Type 0
+IsFirstOf Is cause = (bytes : List ℕ) (number : ℕ) →
+    (IsFirstFault bytes (record { line = number; cause = cause }) → IsAtLine Is bytes number) ×
+    (IsAtLine Is bytes number → IsFirstFault bytes (record { line = number; cause = cause }))
+
 abbrev pub FirstBadLine : Type 0
-FirstBadLine = IsFaultOf HasNoForm cause.BadLine
+FirstBadLine = IsFirstOf HasNoForm cause.BadLine
 
 abbrev pub FirstBadNumber : Type 0
-FirstBadNumber = IsFaultOf HasBadNumber cause.BadNumber
+FirstBadNumber = IsFirstOf HasBadNumber cause.BadNumber
 
 abbrev pub FirstOutOfRange : Type 0
-FirstOutOfRange = IsFaultOf IsOutOfRange cause.OutOfRange
+FirstOutOfRange = IsFirstOf IsOutOfRange cause.OutOfRange

@@ -1,5 +1,5 @@
 //! Laws over the forms of lines, each the contract of a function that does nothing.
-ghost use Rattle.kz_grammar.specs.FormLaws.{OneForm, BadLines, BadNumbers, OutOfRanges, FineLines, FirstBadLine, FirstBadNumber, FirstOutOfRange, FineLinesSay, FormsAreTexts};
+ghost use Rattle.kz_grammar.specs.FormLaws.{OneForm, BadLines, BadNumbers, OutOfRanges, FineLines, BadLineForms, BadNumberForms, OutOfRangeForms, FirstBadLine, FirstBadNumber, FirstOutOfRange, FineLinesSay, FormsAreTexts};
 
 /// A line has one form of its place at most, and one run in each place of a number.
 pub fn a_line_has_one_form()
@@ -17,6 +17,13 @@ pub fn lines_are_judged_by_forms()
 
 /// A text's form has one of these faults just where the line of that number has it at its place.
 pub fn texts_are_judged_by_lines()
+    ensures bad { BadLineForms }
+    ensures numbers { BadNumberForms }
+    ensures ranges { OutOfRangeForms }
+{}
+
+/// Such a fault is the first of the bytes just there, since no later stage has one of these.
+pub fn first_faults_are_of_lines()
     ensures bad { FirstBadLine }
     ensures numbers { FirstBadNumber }
     ensures ranges { FirstOutOfRange }
