@@ -1,19 +1,17 @@
 -- Bodies of types, by their forms.
-use Rattle.std.proofs.Common.{◌≡◌, ◌⊎◌, inl, inr, ℕ, zero, suc, ◌+◌, ◌<◌, ◌≤◌, ◌&&◌, Bool, true, false, not, if◌then◌else◌, List, [], ◌∷◌, ◌++◌, length, codes, Option, Some, None, refl, ap, sym, ◌∙◌, subst, arith, append_assoc, append-nil, length-append}
+use Rattle.std.proofs.Common.{◌≡◌, ◌⊎◌, inl, inr, ℕ, zero, suc, ◌+◌, ◌<◌, ◌≤◌, Bool, true, false, if◌then◌else◌, List, [], ◌∷◌, ◌++◌, length, codes, Option, Some, None, refl, ap, sym, ◌∙◌, subst, arith, append_assoc, append-nil, length-append}
 use Rattle.kz_model.specs.declared.bundle.Kind.{Kind}
 use Rattle.kz_model.specs.declared.bundle.Kind.TheVariants.{Union}
 use Rattle.kz_model.specs.declared.bundle.Field.{Field}
-use Rattle.kz_model.specs.declared.grammar.Mark.{Mark}
 use Rattle.kz_model.specs.declared.grammar.Mark.TheVariants.{Fine}
 use Rattle.kz_model.specs.Grammar.Tokens.{is}
 use Rattle.kz_model.specs.Grammar.TypeLine as rule
 use Rattle.kz_model.specs.Grammar.TypeLine.{Phrase, Rule, FieldAndMore, no_phrase, says}
 use Rattle.kz_bundle.proofs.Choices.{wrong, not_so, is_same, is_itself}
-use Rattle.kz_grammar.specs.Forms.{Token, Text, token_text, words_of, Word, HasRow, HasOneOf, plain_kinds, FieldForm, label_token, fields_tokens, body_tokens, AreFields, IsBodyOf, IsUnionOf, NoUnion, IsKindOf, IsBody}
-use Rattle.kz_grammar.proofs.Rows.{mark_of}
-use Rattle.kz_grammar.proofs.Phrases.{two_texts, Begins, BeginsNot, Parses, Sequence, sequence, same_forms, seen}
-use Rattle.kz_grammar.proofs.LabelForms.{IsLabelled, has_more, labelled_parses, ending}
-use Rattle.kz_grammar.proofs.KindForms.{nothing, only, same_head, same_tail, no_head, one_token, word_parses, no_word, rows_apart, AreUnions, is_union_word, union_rule, some_word, kind_parses}
+use Rattle.kz_grammar.specs.Forms.{Token, Text, token_text, words_of, Word, HasRow, plain_kinds, FieldForm, label_token, fields_tokens, body_tokens, AreFields, IsBodyOf, IsUnionOf, NoUnion, IsKindOf, IsBody}
+use Rattle.kz_grammar.proofs.Phrases.{two_texts, Begins, Parses, Sequence, sequence, same_forms, seen}
+use Rattle.kz_grammar.proofs.LabelForms.{IsLabelled, has_more, labelled_parses}
+use Rattle.kz_grammar.proofs.KindForms.{nothing, only, same_head, same_tail, no_head, one_token, word_parses, no_word, rows_apart, AreUnions, union_rule, some_word, kind_parses}
 
 abbrev pub Close : List Token → Type 0
 Close = HasRow (Word (codes "}") ∷ [])

@@ -1,6 +1,5 @@
 -- The first line without a form, or with a wrong number, decides on the form of a text.
 use Rattle.std.proofs.Common.{◌≡◌, ◌≢◌, ℕ, ◌+◌, ◌==◌, Bool, true, false, if◌then◌else◌, List, [], ◌∷◌, ◌++◌, length, map, Option, Some, None, Result, Ok, Err, refl, ap, sym, ◌∙◌, subst, arith}
-use Rattle.kz_model.specs.declared.bundle.TypeDecl.{TypeDecl}
 use Rattle.kz_model.specs.declared.grammar.Mark.{Mark}
 use Rattle.kz_model.specs.declared.grammar.Mark.TheVariants.{Fine, OutOfRange, BadNumber}
 use Rattle.kz_model.specs.declared.grammar.Place.{Place}
@@ -9,15 +8,14 @@ use Rattle.kz_model.specs.declared.grammar.Cause.{Cause}
 use Rattle.kz_model.specs.declared.grammar.Cause.TheVariants as cause
 use Rattle.kz_model.specs.declared.grammar.Counted.TheVariants as counted
 use Rattle.kz_model.specs.declared.grammar.Refusal.{Refusal}
-use Rattle.kz_model.specs.Grammar.Tokens.{tokens_of, lines_of}
-use Rattle.kz_model.specs.Grammar.Steps.{NamedStep}
-use Rattle.kz_model.specs.Grammar.Form.{Line, Machine, SeedOf, Cpus, Frames, Pages, Budget, Magazine, Depot, Declares, Opens, Does, Break, Orders, Turns, Ends, Draft, empty_draft, line_at, with_type, with_step, with_break, with_line, judged, after_line, refused, rest_at, go_on, form_from, form_of}
+use Rattle.kz_model.specs.Grammar.Tokens.{tokens_of}
+use Rattle.kz_model.specs.Grammar.Form.{Line, Machine, SeedOf, Cpus, Frames, Pages, Budget, Magazine, Depot, Declares, Opens, Does, Break, Orders, Turns, Ends, Draft, empty_draft, line_at, with_break, with_line, judged, after_line, refused, rest_at, go_on, form_from, form_of}
 use Rattle.kz_model.specs.declared.bundle.Bundle.{Bundle}
 use Rattle.kz_model.specs.Grammar.Stages.{later_fault, bundle_of, unless, after_form}
-use Rattle.kz_model.specs.Grammar.Spelling.{line_text, IsAllowed, Leads}
-use Rattle.kz_bundle.proofs.Choices.{found_same, none_found, err_not}
-use Rattle.kz_bundle.proofs.Walking.{IsReached, leads_to, fails, reached_more, reached_first, formed, in_header, fits_reached, Stepped, after_line_is, after_line_reads, some_line}
-use Rattle.kz_grammar.specs.FormLaws.{HasNoForm, HasBadNumber, IsOutOfRange, IsMarked, StandsAt, IsAtLine, IsFormFault, IsFirstOf, BadLineForms, BadNumberForms, OutOfRangeForms, FirstBadLine, FirstBadNumber, FirstOutOfRange}
+use Rattle.kz_model.specs.Grammar.Spelling.{line_text, Leads}
+use Rattle.kz_bundle.proofs.Choices.{err_not}
+use Rattle.kz_bundle.proofs.Walking.{IsReached, leads_to, fails, reached_more, reached_first, formed, in_header, fits_reached, after_line_is, after_line_reads, some_line}
+use Rattle.kz_grammar.specs.FormLaws.{HasNoForm, HasBadNumber, IsOutOfRange, IsMarked, IsAtLine, IsFormFault, IsFirstOf, BadLineForms, BadNumberForms, OutOfRangeForms, FirstBadLine, FirstBadNumber, FirstOutOfRange}
 use Rattle.kz_grammar.proofs.LaterFaults.{OfLine, IsLater, is_later}
 use Rattle.kz_grammar.proofs.Judgements.{bad_lines, bad_numbers, out_of_ranges}
 

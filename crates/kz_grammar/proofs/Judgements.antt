@@ -1,15 +1,15 @@
 -- What is found of a line is right by the forms of its place, and so each judgement says what it should.
-use Rattle.std.proofs.Common.{◌≡◌, inl, inr, ℕ, List, [], ◌∷◌, Option, Some, None, refl, ap, sym, ◌∙◌, subst}
+use Rattle.std.proofs.Common.{◌≡◌, ℕ, List, Option, Some, None, refl, ap, sym, ◌∙◌, subst}
 use Rattle.kz_model.specs.declared.grammar.Mark.{Mark}
 use Rattle.kz_model.specs.declared.grammar.Mark.TheVariants.{Fine, OutOfRange, BadNumber}
 use Rattle.kz_model.specs.declared.grammar.Place.{Place}
 use Rattle.kz_model.specs.declared.grammar.Place.TheVariants as place
-use Rattle.kz_model.specs.Grammar.Form.{Line, Draft, line_at, line_of_types}
+use Rattle.kz_model.specs.Grammar.Form.{Line, Draft, line_at}
 use Rattle.kz_bundle.proofs.Choices.{found_same, none_found}
 use Rattle.kz_bundle.proofs.LineTexts.{InHeader, line_says}
-use Rattle.kz_grammar.specs.Forms.{Token, Hole, holes_of, IsForm, HasForm}
-use Rattle.kz_grammar.specs.FormLaws.{HasNoForm, HasBadNumber, IsOutOfRange, IsFine, IsMarked, OneForm, BadLines, BadNumbers, OutOfRanges, FineLines, IsPlace, FineLinesSay}
-use Rattle.kz_grammar.proofs.Rows.{Fits, Judged, mark_of}
+use Rattle.kz_grammar.specs.Forms.{Token, holes_of, IsForm, HasForm}
+use Rattle.kz_grammar.specs.FormLaws.{HasNoForm, IsMarked, OneForm, BadLines, BadNumbers, OutOfRanges, FineLines, IsPlace, FineLinesSay}
+use Rattle.kz_grammar.proofs.Rows.{Fits, Judged}
 use Rattle.kz_grammar.proofs.LineForms.{header_judged, section_judged, order_judged}
 use Rattle.kz_grammar.proofs.TypeForms.{types_judged}
 use Rattle.kz_grammar.proofs.Marks.{AreMarked, are_marked, one_mark}

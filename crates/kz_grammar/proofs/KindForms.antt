@@ -1,18 +1,18 @@
 -- Kinds of fields, by their forms.
-use Rattle.std.proofs.Common.{◌≡◌, ◌⊎◌, inl, inr, ℕ, ◌&&◌, Bool, true, false, not, if◌then◌else◌, List, [], ◌∷◌, ◌++◌, codes, Option, Some, None, refl, ap, sym, ◌∙◌, subst}
+use Rattle.std.proofs.Common.{◌≡◌, ◌⊎◌, inl, inr, ℕ, ◌&&◌, Bool, true, false, not, if◌then◌else◌, List, [], ◌∷◌, ◌++◌, codes, Option, Some, None, refl, ap, sym, ◌∙◌}
 use Rattle.kz_model.specs.declared.bundle.Kind.{Kind}
-use Rattle.kz_model.specs.declared.bundle.Kind.TheVariants.{Ptr, Auth, U8, U16, U32, U64, Bytes, Struct, Union}
+use Rattle.kz_model.specs.declared.bundle.Kind.TheVariants.{Ptr, Auth, U8, U16, U32, U64, Bytes, Struct}
 use Rattle.kz_model.specs.declared.bundle.Field.{Field}
 use Rattle.kz_model.specs.declared.grammar.Mark.{Mark}
 use Rattle.kz_model.specs.declared.grammar.Mark.TheVariants.{Fine}
-use Rattle.kz_model.specs.Grammar.Tokens.{is, is_name, is_run, number_in}
+use Rattle.kz_model.specs.Grammar.Tokens.{is, number_in}
 use Rattle.kz_model.specs.Grammar.TypeLine as rule
 use Rattle.kz_model.specs.Grammar.TypeLine.{Phrase, Rule, no_phrase, says}
 use Rattle.kz_bundle.proofs.Choices.{wrong, left, right, is_same, is_itself}
 use Rattle.kz_bundle.proofs.Grammar.{worse_fine}
-use Rattle.kz_grammar.specs.Forms.{Token, Text, Run, Counted, token_text, words_of, Slot, Word, Name, Hex, Number, Fills, HasRow, HasOneOf, plain_kinds, IsKindOf}
+use Rattle.kz_grammar.specs.Forms.{Token, Text, Run, Counted, token_text, words_of, Slot, Word, Name, Hex, Number, HasRow, HasOneOf, plain_kinds, IsKindOf}
 use Rattle.kz_grammar.proofs.Rows.{mark_of, fits_slot, token_at, slot_fills, slot_text, fills_slot, fills_alone}
-use Rattle.kz_grammar.proofs.Phrases.{Begins, BeginsNot, Parses}
+use Rattle.kz_grammar.proofs.Phrases.{Parses}
 
 -- forms of which nothing is seen
 abbrev pub nothing : {A : Type 0} → A → Unit {0}

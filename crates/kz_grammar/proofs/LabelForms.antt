@@ -1,5 +1,5 @@
 -- Labels of fields, by their forms.
-use Rattle.std.proofs.Common.{◌≡◌, ℕ, ◌==◌, ◌&&◌, Bool, true, false, if◌then◌else◌, List, [], ◌∷◌, ◌++◌, codes, Option, Some, None, IsTrue, refl, ap, sym, ◌∙◌, subst, append_assoc, append-nil}
+use Rattle.std.proofs.Common.{◌≡◌, ℕ, ◌&&◌, Bool, true, false, if◌then◌else◌, List, [], ◌∷◌, ◌++◌, codes, Option, Some, None, IsTrue, refl, ap, sym, ◌∙◌, append_assoc, append-nil}
 use Rattle.std.specs.List.{list_any, before_first, after_first}
 use Rattle.std.specs.Option.{option_map_or}
 use Rattle.kz_model.specs.declared.bundle.Kind.{Kind}
@@ -7,13 +7,13 @@ use Rattle.kz_model.specs.declared.grammar.Mark.{Mark}
 use Rattle.kz_model.specs.declared.grammar.Mark.TheVariants.{Fine}
 use Rattle.kz_model.specs.Grammar.Tokens.{is_name, is_run, number_in}
 use Rattle.kz_model.specs.Grammar.TypeLine.{Phrase, FieldAndMore, ends_with, without_last, label, field_of, labelled}
-use Rattle.kz_bundle.proofs.Choices.{wrong, left, right, and_true, equal, found_same}
+use Rattle.kz_bundle.proofs.Choices.{wrong, left, right, and_true, equal}
 use Rattle.kz_bundle.proofs.NameTexts.{name_no_bracket, name_no_semicolon}
-use Rattle.kz_bundle.proofs.LabelTexts.{bracket, before_is, after_is, any_there, CutAt, cut_at, last_is, without_last_is, last_byte, no_last}
+use Rattle.kz_bundle.proofs.LabelTexts.{bracket, before_is, after_is, any_there, cut_at, last_is, without_last_is, last_byte, no_last}
 use Rattle.kz_bundle.proofs.Grammar.{worse_fine}
-use Rattle.kz_grammar.specs.Forms.{Hole, Token, Text, Counted, token_text, words_of, label_token, IsCount}
+use Rattle.kz_grammar.specs.Forms.{Hole, Token, token_text, words_of, label_token, IsCount}
 use Rattle.kz_grammar.proofs.Rows.{mark_of}
-use Rattle.kz_grammar.proofs.Phrases.{Begins, Parses}
+use Rattle.kz_grammar.proofs.Phrases.{Parses}
 
 -- ---- the text of a label
 

@@ -1,17 +1,17 @@
 -- What is found of a line, by the rows of its place: the header, `cpu` lines, step lines and the order.
-use Rattle.std.proofs.Common.{◌≡◌, ℕ, ◌+◌, ◌-◌, ◌^◌, ◌==◌, ◌&&◌, Bool, true, false, not, true≢false, if◌then◌else◌, List, [], ◌∷◌, length, codes, Option, Some, None, refl, ap, sym, ◌∙◌, subst}
+use Rattle.std.proofs.Common.{◌≡◌, ℕ, ◌+◌, ◌-◌, ◌^◌, ◌==◌, ◌&&◌, Bool, true, false, not, true≢false, if◌then◌else◌, List, [], ◌∷◌, length, codes, Option, Some, None, refl, ap, sym, subst}
 use Rattle.kz_model.specs.declared.bundle.Seed.{Seed}
-use Rattle.kz_model.specs.declared.bundle.Seed.TheVariants.{Plain, Number}
+use Rattle.kz_model.specs.declared.bundle.Seed.TheVariants.{Plain}
 use Rattle.kz_model.specs.declared.grammar.Mark.{Mark}
-use Rattle.kz_model.specs.declared.grammar.Mark.TheVariants.{Fine, OutOfRange, BadNumber}
-use Rattle.kz_model.specs.Grammar.Tokens.{is, is_name, is_run, is_hex, number_in, worse}
-use Rattle.kz_model.specs.Grammar.Steps.{NamedStep, Alloc, AllocZero, Free, FreeAs, Give, Take, Read, Write, Flush, Trim, number_line, step_line, gives, reads, writes}
-use Rattle.kz_model.specs.Grammar.Form.{Line, Machine, SeedOf, Cpus, Frames, Pages, Budget, Magazine, Depot, Opens, Does, Break, Orders, Turns, Ends, Draft, is_last, is_head, is_alone, as_line, seed_of, seed_line, header_line, cpu_line, turn_line, line_of_steps, line_of_order}
+use Rattle.kz_model.specs.declared.grammar.Mark.TheVariants.{Fine}
+use Rattle.kz_model.specs.Grammar.Tokens.{is, is_run, number_in, worse}
+use Rattle.kz_model.specs.Grammar.Steps.{NamedStep, number_line, step_line}
+use Rattle.kz_model.specs.Grammar.Form.{Line, Machine, SeedOf, Cpus, Frames, Pages, Budget, Magazine, Depot, Opens, Does, Break, Orders, Turns, Ends, Draft, is_last, is_head, is_alone, as_line, seed_of, seed_line, header_line, cpu_line, line_of_steps, line_of_order}
 use Rattle.kz_bundle.proofs.Choices.{wrong, is_same}
 use Rattle.kz_bundle.proofs.Grammar.{worse_fine}
 use Rattle.kz_grammar.specs.Forms.{Token, Slot, Word, Name, Hex, HasOneOf, numbered_row, numbered, header_rows, step_rows, section_rows, order_rows}
 use Rattle.kz_grammar.specs.Forms as slot
-use Rattle.kz_grammar.proofs.Rows.{Fits, Judged, ByRows, mark_of, row_tokens, fits_row, skip_row, at_row, no_rows}
+use Rattle.kz_grammar.proofs.Rows.{Judged, ByRows, fits_row, skip_row, at_row, no_rows}
 
 -- the same as a line
 pub as_line_judged : {A : Type 0} (F : List Token → Type 0) (words : List (List ℕ)) (f : A → Line) (found : Option (A × Mark)) → Judged F words found → Judged F words (as_line f found)

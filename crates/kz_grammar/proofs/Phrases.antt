@@ -1,7 +1,6 @@
 -- Phrases of a type line, by their forms.
 use Rattle.std.proofs.Common.{◌≡◌, ℕ, List, [], ◌∷◌, ◌++◌, Option, Some, None, refl, ap, sym, ◌∙◌, subst, append_assoc}
 use Rattle.kz_model.specs.declared.grammar.Mark.{Mark}
-use Rattle.kz_model.specs.declared.grammar.Mark.TheVariants.{Fine, OutOfRange, BadNumber}
 use Rattle.kz_model.specs.Grammar.Tokens.{worse}
 use Rattle.kz_model.specs.Grammar.TypeLine.{Phrase, Rule, says, after_mark, followed_by}
 use Rattle.kz_bundle.proofs.Grammar.{worse_assoc, worse_fine}

@@ -1,9 +1,9 @@
 -- Rows of a table of forms, tried on words.
-use Rattle.std.proofs.Common.{◌≡◌, ◌⊎◌, inl, inr, ℕ, ◌==◌, ◌&&◌, ◌||◌, Bool, true, false, not, if◌then◌else◌, List, [], ◌∷◌, ◌++◌, Option, Some, None, IsTrue, refl, ap, sym, ◌∙◌, subst}
+use Rattle.std.proofs.Common.{◌≡◌, ◌⊎◌, inl, inr, ℕ, ◌&&◌, ◌||◌, Bool, true, false, not, if◌then◌else◌, List, [], ◌∷◌, Option, Some, None, refl, ap, sym, ◌∙◌, subst}
 use Rattle.kz_model.specs.declared.grammar.Mark.{Mark}
-use Rattle.kz_model.specs.declared.grammar.Mark.TheVariants.{Fine, OutOfRange, BadNumber}
+use Rattle.kz_model.specs.declared.grammar.Mark.TheVariants.{Fine}
 use Rattle.kz_model.specs.Grammar.Tokens.{is, is_name, is_run, is_hex, number_in, worse}
-use Rattle.kz_bundle.proofs.Choices.{wrong, left, right, and_true, or_left, or_right, is_same, is_itself, not_so}
+use Rattle.kz_bundle.proofs.Choices.{wrong, left, right, and_true, is_same, is_itself}
 use Rattle.kz_grammar.specs.Forms.{Hole, Token, Text, Run, Counted, token_text, words_of, holes_of, Slot, Word, Name, Hex, Number, IsNoneOf, Fills, HasRow, HasOneOf}
 
 -- ---- marks

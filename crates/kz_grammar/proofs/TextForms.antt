@@ -1,6 +1,6 @@
 -- Lines as texts: the tokens of a form have no space, so a line is theirs, parted by spaces.
-use Rattle.std.proofs.Common.{◌≡◌, ◌⊎◌, inl, inr, ℕ, zero, suc, ◌==◌, ◌&&◌, Bool, true, false, not, nat_le, if◌then◌else◌, List, [], ◌∷◌, ◌++◌, length, codes, Option, Some, None, refl, ap, sym, ◌∙◌, subst, arith}
-use Rattle.std.specs.List.{list_all, slice_split, onto_first, join_with_byte}
+use Rattle.std.proofs.Common.{◌≡◌, ◌⊎◌, inl, inr, ℕ, zero, suc, ◌==◌, ◌&&◌, Bool, true, false, not, if◌then◌else◌, List, [], ◌∷◌, ◌++◌, codes, Option, Some, None, refl, ap, sym, ◌∙◌, subst, arith}
+use Rattle.std.specs.List.{list_all, onto_first, join_with_byte}
 use Rattle.std.proofs.lemmas.List.Splits.{join_with_byte-slice_split}
 use Rattle.std.proofs.lemmas.List.Folds.{list_all-append}
 use Rattle.kz_model.specs.declared.grammar.Place.{Place}
@@ -10,7 +10,7 @@ use Rattle.kz_model.specs.Grammar.Form.{Draft, is_last}
 use Rattle.kz_bundle.proofs.Choices.{wrong, left, right, and_true, all_append, all_weaker}
 use Rattle.kz_bundle.proofs.Splits.{lacks, lacks_space, part_ends, last_part}
 use Rattle.kz_bundle.proofs.NameTexts.{name_dark}
-use Rattle.kz_grammar.specs.Forms.{Hole, Token, Text, Run, Counted, token_text, words_of, holes_of, EachHole, HasNoSpace, Slot, Word, Name, Hex, Number, Fills, HasRow, HasOneOf, header_rows, section_rows, order_rows, numbered, step_rows, FieldForm, label_token, fields_tokens, body_tokens, AreFields, plain_kinds, IsKindOf, NoUnion, IsUnionOf, IsBodyOf, IsBody, IsTypeForm, IsForm, HasForm, IsTextOf}
+use Rattle.kz_grammar.specs.Forms.{Hole, Token, Text, Run, Counted, token_text, words_of, holes_of, EachHole, HasNoSpace, Slot, Word, Name, Hex, Number, HasRow, HasOneOf, header_rows, section_rows, order_rows, numbered, FieldForm, label_token, fields_tokens, body_tokens, AreFields, plain_kinds, IsKindOf, NoUnion, IsUnionOf, IsBodyOf, IsBody, IsTypeForm, IsForm, HasForm, IsTextOf}
 use Rattle.kz_grammar.specs.FormLaws.{FormsAreTexts}
 use Rattle.kz_grammar.proofs.Phrases.{words_append, holes_append}
 use Rattle.kz_grammar.proofs.KindForms.{no_head}

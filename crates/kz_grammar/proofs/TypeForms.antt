@@ -1,5 +1,5 @@
 -- Type lines, by their form.
-use Rattle.std.proofs.Common.{◌≡◌, ◌⊎◌, inl, inr, ℕ, ◌&&◌, Bool, true, false, if◌then◌else◌, List, [], ◌∷◌, ◌++◌, codes, Option, Some, None, refl, ap, sym, ◌∙◌, subst, append-nil}
+use Rattle.std.proofs.Common.{◌≡◌, ◌⊎◌, inl, inr, ℕ, ◌&&◌, Bool, true, false, if◌then◌else◌, List, [], ◌∷◌, ◌++◌, codes, Option, Some, None, refl, ap, sym, ◌∙◌, append-nil}
 use Rattle.kz_model.specs.declared.bundle.Field.{Field}
 use Rattle.kz_model.specs.declared.bundle.TypeDecl.{TypeDecl}
 use Rattle.kz_model.specs.declared.grammar.Mark.{Mark}
@@ -8,8 +8,8 @@ use Rattle.kz_model.specs.Grammar.Tokens.{is, is_name}
 use Rattle.kz_model.specs.Grammar.TypeLine.{Phrase, body, ended, declared, type_line}
 use Rattle.kz_model.specs.Grammar.Form.{Line, Declares, Opens, Draft, as_line, is_head, cpu_line, line_of_types}
 use Rattle.kz_bundle.proofs.Choices.{wrong, left, right, and_true, is_same, is_itself}
-use Rattle.kz_grammar.specs.Forms.{Token, Text, token_text, words_of, HasRow, HasOneOf, numbered, numbered_row, IsBody, IsTypeForm, IsForm}
-use Rattle.kz_grammar.proofs.Rows.{Fits, Judged, fits_row, row_complete}
+use Rattle.kz_grammar.specs.Forms.{Token, Text, words_of, HasOneOf, numbered, numbered_row, IsBody, IsTypeForm, IsForm}
+use Rattle.kz_grammar.proofs.Rows.{Judged, fits_row, row_complete}
 use Rattle.kz_grammar.proofs.Phrases.{Begins, Parses, same_rest}
 use Rattle.kz_grammar.proofs.KindForms.{nothing, only, same_head, same_tail, no_head}
 use Rattle.kz_grammar.proofs.BodyForms.{bodies_parse}

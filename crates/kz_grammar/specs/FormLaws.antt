@@ -1,5 +1,5 @@
 -- The judgements of a line, in terms of the forms of its place.
-use Rattle.std.specs.Prelude.{◌≡◌, ◌≢◌, ℕ, ◌+◌, ◌≤◌, List, [], ◌∷◌, ◌++◌, length, map, Option, Some, None, Result, Ok, Err}
+use Rattle.std.specs.Prelude.{◌≡◌, ◌≢◌, ℕ, ◌+◌, ◌≤◌, List, ◌∷◌, ◌++◌, length, map, Option, Some, None}
 use Rattle.kz_model.specs.declared.grammar.Mark.{Mark}
 use Rattle.kz_model.specs.declared.grammar.Mark.TheVariants.{Fine, OutOfRange, BadNumber}
 use Rattle.kz_model.specs.declared.grammar.Place.{Place}
@@ -9,7 +9,7 @@ use Rattle.kz_model.specs.declared.grammar.Cause.TheVariants as cause
 use Rattle.kz_model.specs.Grammar.Tokens.{tokens_of, lines_of}
 use Rattle.kz_model.specs.Grammar.Form.{Line, Draft, empty_draft, line_at, refused, form_of}
 use Rattle.kz_model.specs.Grammar.Spelling.{line_text, IsAllowed, Leads, IsFirstFault}
-use Rattle.kz_grammar.specs.Forms.{Token, Hole, holes_of, HasForm, IsTextOf, IsNumber, IsInRange, EachHole, SomeHole}
+use Rattle.kz_grammar.specs.Forms.{Token, holes_of, HasForm, IsTextOf, IsNumber, IsInRange, EachHole, SomeHole}
 
 -- ---- what is wrong with a line
 

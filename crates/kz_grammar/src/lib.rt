@@ -9,5 +9,6 @@
 mod forms;
 
 pub use forms::{
-    a_line_has_one_form, first_faults_are_of_lines, forms_are_texts, lines_are_judged_by_forms, texts_are_judged_by_lines,
+    a_line_has_one_form, first_faults_are_of_lines, forms_are_texts, lines_are_judged_by_forms,
+    texts_are_judged_by_lines,
 };
