@@ -13,18 +13,18 @@ use Rattle.kz_grammar.proofs.Phrases.{two_texts, Begins, Parses, Sequence, seque
 use Rattle.kz_grammar.proofs.LabelForms.{IsLabelled, has_more, labelled_parses}
 use Rattle.kz_grammar.proofs.KindForms.{nothing, only, same_head, same_tail, no_head, one_token, word_parses, no_word, rows_apart, AreUnions, union_rule, some_word, kind_parses}
 
-abbrev pub Close : List Token → Type 0
-Close = HasRow (Word (codes "}") ∷ [])
+abbrev pub IsClose : List Token → Type 0
+IsClose = HasRow (Word (codes "}") ∷ [])
 
 -- a word and then nothing else
-close_parses : {A : Type 0} (a : A) (word : List ℕ) (words : List (List ℕ)) → Parses nothing (only Close) (word ∷ words) (if is (codes "}") word then says a words else None)
+close_parses : {A : Type 0} (a : A) (word : List ℕ) (words : List (List ℕ)) → Parses nothing (only IsClose) (word ∷ words) (if is (codes "}") word then says a words else None)
 close_parses a word words = by_test (is (codes "}") word) refl
   where
-    by_test : (b : Bool) → is (codes "}") word ≡ b → Parses nothing (only Close) (word ∷ words) (if b then says a words else None)
+    by_test : (b : Bool) → is (codes "}") word ≡ b → Parses nothing (only IsClose) (word ∷ words) (if b then says a words else None)
     by_test true e = word_parses a (codes "}") word words e
     by_test false e = λ u tokens rest has same. wrong (sym e ∙ no_word (codes "}") word words tokens rest has same)
 
-no_close : (tokens : List Token) (rest : List (List ℕ)) → Close tokens → [] ≡ words_of tokens ++ rest → ⊥
+no_close : (tokens : List Token) (rest : List (List ℕ)) → IsClose tokens → [] ≡ words_of tokens ++ rest → ⊥
 no_close [] rest has same = has
 no_close (token ∷ tokens) rest has same = no_head (token_text token) (words_of tokens ++ rest) same
 
@@ -76,7 +76,7 @@ module _ (K : List Token → Type 0) where
   -- what follows a field
   abbrev Follows : (List Token → Type 0) → Bool → Unit {0} → List Token → Type 0
   Follows F true u = F
-  Follows F false u = Close
+  Follows F false u = IsClose
 
   -- at most so many fields, and `}` after the last
   abbrev AreAtMost : ℕ → List Token → Type 0
@@ -149,7 +149,7 @@ module _ (K : List Token → Type 0) where
     field_parses : (words : List (List ℕ)) → Parses has_more IsField words (rule.field rule_of words)
     field_parses words = sequence nothing has_more (only K) (λ u. IsLabelled) words (rule_of words) rule.labelled (kinds words) (λ a tokens rest is same. labelled_parses a rest)
 
-    last_parses : (f : Field) (words : List (List ℕ)) → Parses nothing (only Close) words (rule.last_field f words)
+    last_parses : (f : Field) (words : List (List ℕ)) → Parses nothing (only IsClose) words (rule.last_field f words)
     last_parses f [] = λ u tokens rest has same. no_close tokens rest has same
     last_parses f (word ∷ words) = close_parses (f ∷ []) word words
 
@@ -180,7 +180,7 @@ module _ (K : List Token → Type 0) where
 
     -- what stands after `{`
     abbrev IsInBraces : List Token → Type 0
-    IsInBraces tokens = Close tokens ⊎ AreWritten tokens
+    IsInBraces tokens = IsClose tokens ⊎ AreWritten tokens
 
     -- fields don't begin with `}`
     not_closed : (word : List ℕ) (words : List (List ℕ)) (tokens : List Token) (rest : List (List ℕ)) → AreWritten tokens → word ∷ words ≡ words_of tokens ++ rest → is (codes "}") word ≡ false
@@ -198,7 +198,7 @@ module _ (K : List Token → Type 0) where
 
     closed : (word : List ℕ) (words : List (List ℕ)) → is (codes "}") word ≡ true → Parses {A = List Field} nothing (only IsInBraces) (word ∷ words) (says [] words)
     closed word words e =
-        let first : Begins nothing (only Close) (word ∷ words) (record { said = no_fields; mark = Fine; rest = words }) = word_parses no_fields (codes "}") word words e in
+        let first : Begins nothing (only IsClose) (word ∷ words) (record { said = no_fields; mark = Fine; rest = words }) = word_parses no_fields (codes "}") word words e in
         record {
           tokens = first.tokens;
           form = inl first.form;

@@ -9,12 +9,12 @@ use Rattle.kz_bundle.proofs.Choices.{found_same, none_found}
 use Rattle.kz_bundle.proofs.LineTexts.{InHeader, line_says}
 use Rattle.kz_grammar.specs.Forms.{Token, holes_of, IsForm, HasForm}
 use Rattle.kz_grammar.specs.FormLaws.{HasNoForm, IsMarked, OneForm, BadLines, BadNumbers, OutOfRanges, FineLines, IsPlace, FineLinesSay}
-use Rattle.kz_grammar.proofs.Rows.{Fits, Judged}
+use Rattle.kz_grammar.proofs.Rows.{Fits, IsRightBy}
 use Rattle.kz_grammar.proofs.LineForms.{header_judged, section_judged, order_judged}
 use Rattle.kz_grammar.proofs.TypeForms.{types_judged}
 use Rattle.kz_grammar.proofs.Marks.{AreMarked, are_marked, one_mark}
 
-pub line_judged : (p : Place) (d : Draft) (words : List (List ℕ)) → Judged (IsForm p d) words (line_at p d words)
+pub line_judged : (p : Place) (d : Draft) (words : List (List ℕ)) → IsRightBy (IsForm p d) words (line_at p d words)
 line_judged (place.Header at) d words = (header_judged at words).judged
 line_judged place.Types d words = types_judged d words
 line_judged place.Steps d words = (section_judged d words).judged
@@ -22,11 +22,11 @@ line_judged place.Order d words = (order_judged d words).judged
 line_judged place.Ended d words = λ tokens form same. form
 
 module _ (p : Place) (d : Draft) (words : List (List ℕ)) where
-  abbrev Found : Type 0
-  Found = Option (Line × Mark)
+  abbrev Finding : Type 0
+  Finding = Option (Line × Mark)
 
-  abbrev IsJudged : Found → Type 0
-  IsJudged found = Judged (IsForm p d) words found
+  abbrev IsJudged : Finding → Type 0
+  IsJudged found = IsRightBy (IsForm p d) words found
 
   -- a form whose runs have this mark
   record HasMark (mark : Mark) : Type 0 where
@@ -40,24 +40,24 @@ module _ (p : Place) (d : Draft) (words : List (List ℕ)) where
   holes_marked : (mark : Mark) (fits : Fits (IsForm p d) words mark) → AreMarked (holes_of fits.tokens) mark
   holes_marked mark fits = subst (AreMarked (holes_of fits.tokens)) (sym fits.marked) (are_marked (holes_of fits.tokens))
 
-  no_form : (found : Found) → IsJudged found → (found ≡ None → HasNoForm p d words) × (HasNoForm p d words → found ≡ None)
+  no_form : (found : Finding) → IsJudged found → (found ≡ None → HasNoForm p d words) × (HasNoForm p d words → found ≡ None)
   no_form None judged = (λ e tokens form. judged tokens form.form form.text, λ no. refl)
   no_form (Some found) judged = (λ e. none_found found (sym e), λ no. absurd (no judged.tokens (has_form found.1 judged)))
 
-  mark_says : (found : Found) (mark : Mark) → IsJudged found → IsMarked found mark → HasMark mark
+  mark_says : (found : Finding) (mark : Mark) → IsJudged found → IsMarked found mark → HasMark mark
   mark_says None mark judged is = none_found (is.0, mark) is.1
   mark_says (Some found) mark judged is =
       let same : found.1 ≡ mark = ap (λ (f : Line × Mark). f.1) (found_same found (is.0, mark) is.1) in
       record { tokens = judged.tokens; form = has_form found.1 judged; marked = subst (AreMarked (holes_of judged.tokens)) same (holes_marked found.1 judged) }
 
-  says_mark : (found : Found) (mark : Mark) → IsJudged found → HasMark mark → IsMarked found mark
+  says_mark : (found : Finding) (mark : Mark) → IsJudged found → HasMark mark → IsMarked found mark
   says_mark None mark judged has = absurd (judged has.tokens has.form.form has.form.text)
   says_mark (Some found) mark judged has =
       let same = judged.alone has.tokens has.form.form has.form.text in
       let marked = subst (λ tokens. AreMarked (holes_of tokens) mark) same has.marked in
       (found.0, ap (λ (mark : Mark). Some (found.0, mark)) (one_mark (holes_of judged.tokens) found.1 mark (holes_marked found.1 judged) marked))
 
-  one : (found : Found) → IsJudged found → (tokens others : List Token) → HasForm p d words tokens → HasForm p d words others → tokens ≡ others
+  one : (found : Finding) → IsJudged found → (tokens others : List Token) → HasForm p d words tokens → HasForm p d words others → tokens ≡ others
   one None judged tokens others form other = absurd (judged tokens form.form form.text)
   one (Some found) judged tokens others form other = judged.alone tokens form.form form.text ∙ sym (judged.alone others other.form other.text)
 

@@ -10,7 +10,7 @@ use Rattle.kz_model.specs.Grammar.TypeLine as rule
 use Rattle.kz_model.specs.Grammar.TypeLine.{Phrase, Rule, no_phrase, says}
 use Rattle.kz_bundle.proofs.Choices.{wrong, left, right, is_same, is_itself}
 use Rattle.kz_bundle.proofs.Grammar.{worse_fine}
-use Rattle.kz_grammar.specs.Forms.{Token, Text, Run, Counted, token_text, words_of, Slot, Word, Name, Hex, Number, HasRow, HasOneOf, plain_kinds, IsKindOf}
+use Rattle.kz_grammar.specs.Forms.{Token, Text, Run, WithCount, token_text, words_of, Slot, Word, Name, Hex, Number, HasRow, HasOneOf, plain_kinds, IsKindOf}
 use Rattle.kz_grammar.proofs.Rows.{mark_of, fits_slot, token_at, slot_fills, slot_text, fills_slot, fills_alone}
 use Rattle.kz_grammar.proofs.Phrases.{Parses}
 
@@ -40,7 +40,7 @@ pub one_token : (w : List ℕ) (tokens : List Token) → HasRow (Word w ∷ []) 
 one_token w [] has = absurd has
 one_token w (Text text ∷ []) has = ap (λ (t : List ℕ). Text t ∷ []) has.0
 one_token w (Run hole ∷ []) has = absurd has.0
-one_token w (Counted before hole after ∷ []) has = absurd has.0
+one_token w (WithCount before hole after ∷ []) has = absurd has.0
 one_token w (token ∷ next ∷ tokens) has = absurd has.1
 
 -- a row of a word and a slot, at these words
@@ -54,7 +54,7 @@ two_tokens w slot word x words (Text text ∷ token ∷ []) rest has e =
       ap (λ (t : List ℕ). Text t ∷ token ∷ []) has.0 ∙ ap (λ (t : Token). Text w ∷ t ∷ []) (fills_alone token slot has.1.0 ∙ ap (token_at slot) (sym here)),
     )
 two_tokens w slot word x words (Run hole ∷ token ∷ []) rest has e = absurd has.0
-two_tokens w slot word x words (Counted before hole after ∷ token ∷ []) rest has e = absurd has.0
+two_tokens w slot word x words (WithCount before hole after ∷ token ∷ []) rest has e = absurd has.0
 two_tokens w slot word x words (token ∷ next ∷ more ∷ tokens) rest has e = absurd has.1.1
 
 -- there is no word for the slot
@@ -123,7 +123,7 @@ row_apart w (Hex ∷ slots) word words tokens rest apart has e f = wrong apart
 row_apart w (Number others low high ∷ slots) word words tokens rest apart has e f = wrong apart
 row_apart w (Word v ∷ slots) word words [] rest apart has e f = has
 row_apart w (Word v ∷ slots) word words (Run hole ∷ tokens) rest apart has e f = has.0
-row_apart w (Word v ∷ slots) word words (Counted before hole after ∷ tokens) rest apart has e f = has.0
+row_apart w (Word v ∷ slots) word words (WithCount before hole after ∷ tokens) rest apart has e f = has.0
 row_apart w (Word v ∷ slots) word words (Text text ∷ tokens) rest apart has e f =
     let same : word ≡ v = same_head word text words (words_of tokens ++ rest) e ∙ has.0 in
     wrong (sym (sym apart ∙ ap not (ap (is w) (sym same) ∙ f)))
@@ -164,7 +164,7 @@ module _ (U : List Token → Type 0) (unions : AreUnions U) where
       same_head word (codes "union") words (opens.0 ++ rest) (e ∙ ap (λ (t : List (List ℕ)). t ++ rest) opens.1)
 
   -- what a rule gives after a word is right by these rows, or by unions
-  record ByKinds (rows : List (List Slot)) (word : List ℕ) (words : List (List ℕ)) (given : Rule Kind) : Type 0 where
+  record IsRightByKinds (rows : List (List Slot)) (word : List ℕ) (words : List (List ℕ)) (given : Rule Kind) : Type 0 where
     parses : Parses nothing (only (AreKinds rows)) (word ∷ words) (given words)
 
   kinds_apart : (w : List ℕ) (rows : List (List Slot)) (word : List ℕ) (words : List (List ℕ)) (tokens : List Token) (rest : List (List ℕ)) → (not (is w (codes "union")) && all_apart w rows) ≡ true → AreKinds rows tokens →
@@ -203,7 +203,7 @@ module _ (U : List Token → Type 0) (unions : AreUnions U) where
     is_first [] rest has same = absurd has
     is_first (Text text ∷ tokens) rest has same = ap (is w) (same_head word text words (words_of tokens ++ rest) same ∙ has.0) ∙ is_itself w
     is_first (Run hole ∷ tokens) rest has same = absurd has.0
-    is_first (Counted before hole after ∷ tokens) rest has same = absurd has.0
+    is_first (WithCount before hole after ∷ tokens) rest has same = absurd has.0
 
     there : is w word ≡ false → (p : Option (Phrase Kind)) → Parses nothing (only (AreKinds rows)) (word ∷ words) p → Parses nothing (only (AreKinds (row ∷ rows))) (word ∷ words) p
     there e None none = λ u tokens rest has same. by_row tokens rest same has
@@ -241,13 +241,13 @@ module _ (U : List Token → Type 0) (unions : AreUnions U) where
 
   at_kind : {w : List ℕ} {slots : List Slot} {rows : List (List Slot)} {word : List ℕ} {words : List (List ℕ)} {s : Rule Kind} (r : Rule Kind) →
       (not (is w (codes "union")) && all_apart w rows) ≡ true → (is w word ≡ true → Parses nothing (only (HasRow (Word w ∷ slots))) (word ∷ words) (r words)) →
-      ByKinds rows word words s → ByKinds ((Word w ∷ slots) ∷ rows) word words (if is w word then r else s)
+      IsRightByKinds rows word words s → IsRightByKinds ((Word w ∷ slots) ∷ rows) word words (if is w word then r else s)
   at_kind {w} {slots} {rows} {word} {words} {s} r apart first next = record { parses = by_word w slots rows word words r s apart first next.parses }
 
   abbrev pub union_rule : Rule (List Field) → List ℕ → Rule Kind
   union_rule body word = if is (codes "union") word then rule.union body else no_phrase
 
-  no_rows : (word : List ℕ) (words : List (List ℕ)) (given : Rule Kind) → Parses nothing (only U) (word ∷ words) (given words) → ByKinds [] word words given
+  no_rows : (word : List ℕ) (words : List (List ℕ)) (given : Rule Kind) → Parses nothing (only U) (word ∷ words) (given words) → IsRightByKinds [] word words given
   no_rows word words given union = record { parses = by_found (given words) union }
     where
       is_union : (tokens : List Token) → AreKinds [] tokens → U tokens
@@ -272,7 +272,7 @@ module _ (U : List Token → Type 0) (unions : AreUnions U) where
   some_word (token ∷ tokens) (inl has) = (token_text token, words_of tokens, refl)
 
   module _ (body : Rule (List Field)) (union_parses : (word : List ℕ) (words : List (List ℕ)) → Parses nothing (only U) (word ∷ words) (union_rule body word words)) where
-    kinds : (word : List ℕ) (words : List (List ℕ)) → ByKinds plain_kinds word words (rule.kind_after body word)
+    kinds : (word : List ℕ) (words : List (List ℕ)) → IsRightByKinds plain_kinds word words (rule.kind_after body word)
     kinds word words =
         at_kind (says Ptr) refl (word_parses Ptr (codes "ptr") word words)
         (at_kind (says Auth) refl (word_parses Auth (codes "auth") word words)

@@ -33,99 +33,99 @@ OfLine other = ⊥
 
 -- ---- layouts want no memory
 
-abbrev IsTold : LayoutCause → Type 0
-IsTold layout.Memory = ⊥
-IsTold other = Unit {0}
+abbrev IsNotMemory : LayoutCause → Type 0
+IsNotMemory layout.Memory = ⊥
+IsNotMemory other = Unit {0}
 
-abbrev Told : {A : Type 0} → Result A LayoutCause → Type 0
-Told (Ok a) = Unit {0}
-Told (Err c) = IsTold c
+abbrev NeedsNoMemory : {A : Type 0} → Result A LayoutCause → Type 0
+NeedsNoMemory (Ok a) = Unit {0}
+NeedsNoMemory (Err c) = IsNotMemory c
 
-then_told : {A B : Type 0} (first : Result A LayoutCause) (next : A → Result B LayoutCause) → Told first → ((a : A) → Told (next a)) → Told (then_do first next)
-then_told (Ok a) next told more = more a
-then_told (Err c) next told more = told
+then_free : {A B : Type 0} (first : Result A LayoutCause) (next : A → Result B LayoutCause) → NeedsNoMemory first → ((a : A) → NeedsNoMemory (next a)) → NeedsNoMemory (then_do first next)
+then_free (Ok a) next told more = more a
+then_free (Err c) next told more = told
 
-if_told : {A : Type 0} (test : Bool) (x y : Result A LayoutCause) → Told x → Told y → Told (if test then x else y)
-if_told true x y here there = here
-if_told false x y here there = there
+if_free : {A : Type 0} (test : Bool) (x y : Result A LayoutCause) → NeedsNoMemory x → NeedsNoMemory y → NeedsNoMemory (if test then x else y)
+if_free true x y here there = here
+if_free false x y here there = there
 
-declared_told : (earlier : List Covered) (place : Option ℕ) → Told (declared_one earlier place)
-declared_told earlier None = tt
-declared_told earlier (Some place) = by_cover (slice_get earlier place)
+declared_free : (earlier : List Covered) (place : Option ℕ) → NeedsNoMemory (declared_one earlier place)
+declared_free earlier None = tt
+declared_free earlier (Some place) = by_cover (slice_get earlier place)
   where
-    by_cover : (cover : Option Covered) → Told (earlier_one cover)
+    by_cover : (cover : Option Covered) → NeedsNoMemory (earlier_one cover)
     by_cover None = tt
     by_cover (Some cover) = tt
 
-whole_told : (inside : Inside) → Told (whole inside)
-whole_told inside = if_told (length inside.names == 0) _ _ tt tt
+whole_free : (inside : Inside) → NeedsNoMemory (whole inside)
+whole_free inside = if_free (length inside.names == 0) _ _ tt tt
 
-own_told : (known : Types) (inner : Inside) (kind : Kind) → Told (own_cover known inner kind)
-own_told known inner Ptr = tt
-own_told known inner Auth = tt
-own_told known inner U8 = tt
-own_told known inner U16 = tt
-own_told known inner U32 = tt
-own_told known inner U64 = tt
-own_told known inner (Bytes n) = tt
-own_told known inner (Struct name) = declared_told known.earlier (types.place_of name known.names)
-own_told known inner (Union' shape row) = whole_told inner
+own_free : (known : Types) (inner : Inside) (kind : Kind) → NeedsNoMemory (own_cover known inner kind)
+own_free known inner Ptr = tt
+own_free known inner Auth = tt
+own_free known inner U8 = tt
+own_free known inner U16 = tt
+own_free known inner U32 = tt
+own_free known inner U64 = tt
+own_free known inner (Bytes n) = tt
+own_free known inner (Struct name) = declared_free known.earlier (types.place_of name known.names)
+own_free known inner (Union' shape row) = whole_free inner
 
-field_told : (known : Types) (in_union : Bool) (so_far : Inside) (kind : Kind) (name : List ℕ) (count : ℕ) (inner : Inside) → Told (one_field known in_union so_far kind name count inner)
-field_told known in_union so_far kind name count inner =
-    if_told (types.has name so_far.names) _ _ tt
-    (then_told (then_do (own_cover known inner kind) (with_cover in_union so_far.body count)) (named so_far.names name)
-    (then_told (own_cover known inner kind) (with_cover in_union so_far.body count) (own_told known inner kind) (λ m. if_told (nat_lt 8192 (offset_of in_union so_far.body m + _)) _ _ tt tt)) (λ body. tt))
+field_free : (known : Types) (in_union : Bool) (so_far : Inside) (kind : Kind) (name : List ℕ) (count : ℕ) (inner : Inside) → NeedsNoMemory (one_field known in_union so_far kind name count inner)
+field_free known in_union so_far kind name count inner =
+    if_free (types.has name so_far.names) _ _ tt
+    (then_free (then_do (own_cover known inner kind) (with_cover in_union so_far.body count)) (named so_far.names name)
+    (then_free (own_cover known inner kind) (with_cover in_union so_far.body count) (own_free known inner kind) (λ m. if_free (nat_lt 8192 (offset_of in_union so_far.body m + _)) _ _ tt tt)) (λ body. tt))
 
 mutual
-  inner_told : (known : Types) (kind : Kind) → Told (inner_of known kind)
-  inner_told known Ptr = tt
-  inner_told known Auth = tt
-  inner_told known U8 = tt
-  inner_told known U16 = tt
-  inner_told known U32 = tt
-  inner_told known U64 = tt
-  inner_told known (Bytes n) = tt
-  inner_told known (Struct name) = tt
-  inner_told known (Union' shape row) = row_told known no_fields row
+  inner_free : (known : Types) (kind : Kind) → NeedsNoMemory (inner_of known kind)
+  inner_free known Ptr = tt
+  inner_free known Auth = tt
+  inner_free known U8 = tt
+  inner_free known U16 = tt
+  inner_free known U32 = tt
+  inner_free known U64 = tt
+  inner_free known (Bytes n) = tt
+  inner_free known (Struct name) = tt
+  inner_free known (Union' shape row) = row_free known no_fields row
 
-  row_told : {m : _} (known : Types) (so_far : Inside) (row : Row_of-Field m) → Told (row_of known so_far row)
-  row_told known so_far end_of-Field = tt
-  row_told known so_far (more_of-Field kind name count rest) =
-      then_told (then_do (inner_of known kind) (one_field known true so_far kind name count)) (λ more. row_of known more rest)
-      (then_told (inner_of known kind) (one_field known true so_far kind name count) (inner_told known kind) (field_told known true so_far kind name count)) (λ more. row_told known more rest)
+  row_free : {m : _} (known : Types) (so_far : Inside) (row : Row_of-Field m) → NeedsNoMemory (row_of known so_far row)
+  row_free known so_far end_of-Field = tt
+  row_free known so_far (more_of-Field kind name count rest) =
+      then_free (then_do (inner_of known kind) (one_field known true so_far kind name count)) (λ more. row_of known more rest)
+      (then_free (inner_of known kind) (one_field known true so_far kind name count) (inner_free known kind) (field_free known true so_far kind name count)) (λ more. row_free known more rest)
 
-fields_told : (known : Types) (so_far : Inside) (fields : List Field) → Told (fields_from known false so_far fields)
-fields_told known so_far [] = tt
-fields_told known so_far (f ∷ fields) =
-    then_told (then_do (inner_of known f.kind) (one_field known false so_far f.kind f.name f.count)) (λ more. fields_from known false more fields)
-    (then_told (inner_of known f.kind) (one_field known false so_far f.kind f.name f.count) (inner_told known f.kind) (field_told known false so_far f.kind f.name f.count)) (λ more. fields_told known more fields)
+fields_free : (known : Types) (so_far : Inside) (fields : List Field) → NeedsNoMemory (fields_from known false so_far fields)
+fields_free known so_far [] = tt
+fields_free known so_far (f ∷ fields) =
+    then_free (then_do (inner_of known f.kind) (one_field known false so_far f.kind f.name f.count)) (λ more. fields_from known false more fields)
+    (then_free (inner_of known f.kind) (one_field known false so_far f.kind f.name f.count) (inner_free known f.kind) (field_free known false so_far f.kind f.name f.count)) (λ more. fields_free known more fields)
 
-type_told : (known : Types) (decl : TypeDecl) → Told (type_cover known decl)
-type_told known decl =
-    if_told (is_earlier (length known.earlier) (types.place_of decl.name known.names)) _ _ tt
-    (then_told (fields_from known false no_fields decl.fields) whole (fields_told known no_fields decl.fields) whole_told)
+type_free : (known : Types) (decl : TypeDecl) → NeedsNoMemory (type_cover known decl)
+type_free known decl =
+    if_free (is_earlier (length known.earlier) (types.place_of decl.name known.names)) _ _ tt
+    (then_free (fields_from known false no_fields decl.fields) whole (fields_free known no_fields decl.fields) whole_free)
 
-abbrev ToldAt : {A : Type 0} → Result A LayoutFault → Type 0
-ToldAt (Ok a) = Unit {0}
-ToldAt (Err fault) = IsTold fault.cause
+abbrev NeedsNoMemoryAt : {A : Type 0} → Result A LayoutFault → Type 0
+NeedsNoMemoryAt (Ok a) = Unit {0}
+NeedsNoMemoryAt (Err fault) = IsNotMemory fault.cause
 
-then_told_at : {A B : Type 0} (first : Result A LayoutFault) (next : A → Result B LayoutFault) → ToldAt first → ((a : A) → ToldAt (next a)) → ToldAt (then_do first next)
+then_told_at : {A B : Type 0} (first : Result A LayoutFault) (next : A → Result B LayoutFault) → NeedsNoMemoryAt first → ((a : A) → NeedsNoMemoryAt (next a)) → NeedsNoMemoryAt (then_do first next)
 then_told_at (Ok a) next told more = more a
 then_told_at (Err fault) next told more = told
 
-found_told : {A : Type 0} (at : ℕ) (found : Result A LayoutCause) → Told found → ToldAt (found_at at found)
-found_told at (Ok a) told = tt
-found_told at (Err c) told = told
+found_free : {A : Type 0} (at : ℕ) (found : Result A LayoutCause) → NeedsNoMemory found → NeedsNoMemoryAt (found_at at found)
+found_free at (Ok a) told = tt
+found_free at (Err c) told = told
 
-types_told : (known : Types) (decls : List TypeDecl) → ToldAt (types_from known decls)
-types_told known [] = tt
-types_told known (decl ∷ decls) =
+types_free : (known : Types) (decls : List TypeDecl) → NeedsNoMemoryAt (types_from known decls)
+types_free known [] = tt
+types_free known (decl ∷ decls) =
     then_told_at (found_at (length known.earlier) (type_cover known decl)) (λ m. types_from (with_earlier known m) decls)
-    (found_told (length known.earlier) (type_cover known decl) (type_told known decl)) (λ m. types_told (with_earlier known m) decls)
+    (found_free (length known.earlier) (type_cover known decl) (type_free known decl)) (λ m. types_free (with_earlier known m) decls)
 
-layouts_told : (decls : List TypeDecl) → ToldAt (layouts_of decls)
-layouts_told decls = then_told_at (types_from _ decls) _ (types_told _ decls) (λ covers. tt)
+layouts_free : (decls : List TypeDecl) → NeedsNoMemoryAt (layouts_of decls)
+layouts_free decls = then_told_at (types_from _ decls) _ (types_free _ decls) (λ covers. tt)
 
 -- ---- faults that are of no line
 
@@ -145,7 +145,7 @@ map_later : {A : Type 0} (f : A → Option Refusal) (o : Option A) (other : Opti
 map_later f None other all rest = rest
 map_later f (Some a) other all rest = all a
 
-cause_later : (c : LayoutCause) → IsTold c → ¬ OfLine (cause_of c)
+cause_later : (c : LayoutCause) → IsNotMemory c → ¬ OfLine (cause_of c)
 cause_later layout.SameName told = λ of. of
 cause_later layout.UnknownType told = λ of. of
 cause_later layout.ForwardUse told = λ of. of
@@ -153,7 +153,7 @@ cause_later layout.Empty told = λ of. of
 cause_later (layout.TooLarge size) told = λ of. of
 cause_later layout.Memory told = λ of. told
 
-layouts_later : (budget : ℕ) (given : Result (List Layout) LayoutFault) → ToldAt given → IsLater (fault_of_layouts budget given)
+layouts_later : (budget : ℕ) (given : Result (List Layout) LayoutFault) → NeedsNoMemoryAt given → IsLater (fault_of_layouts budget given)
 layouts_later budget (Ok layouts) told = if_later (nat_lt budget (length (classes_in_use layouts))) 6 (cause.BudgetShort (length (classes_in_use layouts))) (λ of. of)
 layouts_later budget (Err fault) told = cause_later fault.cause told
 
@@ -197,6 +197,6 @@ order_later d (Some lines) = turns_later (sections_of d) d.section.breaks 0 (lef
 -- no later stage has such a fault
 pub is_later : (d : Draft) → IsLater (later_fault d)
 is_later d =
-    else_later (types_fault d) _ (layouts_later d.header.budget (layouts_of d.types) (layouts_told d.types))
+    else_later (types_fault d) _ (layouts_later d.header.budget (layouts_of d.types) (layouts_free d.types))
     (else_later (names_fault d) (rounds_fault d) (names_later (type_names d) (rows_of (step_lines d)) [] (step_lines d))
     (else_later (rounds_of (sections_of d)) (order_fault d d.order) (all_rounds_later (sections_of d)) (order_later d d.order)))

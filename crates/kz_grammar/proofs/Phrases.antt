@@ -4,7 +4,7 @@ use Rattle.kz_model.specs.declared.grammar.Mark.{Mark}
 use Rattle.kz_model.specs.Grammar.Tokens.{worse}
 use Rattle.kz_model.specs.Grammar.TypeLine.{Phrase, Rule, says, after_mark, followed_by}
 use Rattle.kz_bundle.proofs.Grammar.{worse_assoc, worse_fine}
-use Rattle.kz_grammar.specs.Forms.{Hole, Token, Text, Run, Counted, token_text, words_of, holes_of}
+use Rattle.kz_grammar.specs.Forms.{Hole, Token, Text, Run, WithCount, token_text, words_of, holes_of}
 use Rattle.kz_grammar.proofs.Rows.{mark_of_hole, mark_of_holes, mark_of}
 
 -- ---- tokens after tokens
@@ -21,7 +21,7 @@ pub holes_append : (tokens others : List Token) → holes_of (tokens ++ others) 
 holes_append [] others = refl
 holes_append (Text text ∷ tokens) others = holes_append tokens others
 holes_append (Run hole ∷ tokens) others = ap (λ (holes : List Hole). hole ∷ holes) (holes_append tokens others)
-holes_append (Counted before hole after ∷ tokens) others = ap (λ (holes : List Hole). hole ∷ holes) (holes_append tokens others)
+holes_append (WithCount before hole after ∷ tokens) others = ap (λ (holes : List Hole). hole ∷ holes) (holes_append tokens others)
 
 worse_append : (holes others : List Hole) → mark_of_holes (holes ++ others) ≡ worse (mark_of_holes holes) (mark_of_holes others)
 worse_append [] others = refl

@@ -4,7 +4,7 @@ use Rattle.kz_model.specs.declared.grammar.Mark.{Mark}
 use Rattle.kz_model.specs.declared.grammar.Mark.TheVariants.{Fine}
 use Rattle.kz_model.specs.Grammar.Tokens.{is, is_name, is_run, is_hex, number_in, worse}
 use Rattle.kz_bundle.proofs.Choices.{wrong, left, right, and_true, is_same, is_itself}
-use Rattle.kz_grammar.specs.Forms.{Hole, Token, Text, Run, Counted, token_text, words_of, holes_of, Slot, Word, Name, Hex, Number, IsNoneOf, Fills, HasRow, HasOneOf}
+use Rattle.kz_grammar.specs.Forms.{Hole, Token, Text, Run, WithCount, token_text, words_of, holes_of, Slot, Word, Name, Hex, Number, IsNoneOf, Fills, HasRow, HasOneOf}
 
 -- ---- marks
 
@@ -30,9 +30,9 @@ pub record Fits (F : List Token → Type 0) (words : List (List ℕ)) (mark : Ma
   pub marked : mark ≡ mark_of tokens
   pub alone : (others : List Token) → F others → words ≡ words_of others → others ≡ tokens
 
-abbrev pub Judged : {A : Type 0} → (List Token → Type 0) → List (List ℕ) → Option (A × Mark) → Type 0
-Judged F words None = (tokens : List Token) → F tokens → words ≡ words_of tokens → ⊥
-Judged F words (Some found) = Fits F words found.1
+abbrev pub IsRightBy : {A : Type 0} → (List Token → Type 0) → List (List ℕ) → Option (A × Mark) → Type 0
+IsRightBy F words None = (tokens : List Token) → F tokens → words ≡ words_of tokens → ⊥
+IsRightBy F words (Some found) = Fits F words found.1
 
 -- ---- a slot
 
@@ -90,7 +90,7 @@ fills_slot (Run hole) (Number words low high) fills = and_true (is_none_of hole.
 fills_slot (Run hole) (Word word) fills = absurd fills
 fills_slot (Run hole) Name fills = absurd fills
 fills_slot (Run hole) Hex fills = absurd fills
-fills_slot (Counted before hole after) slot fills = absurd fills
+fills_slot (WithCount before hole after) slot fills = absurd fills
 
 hole_is : (hole : Hole) (low high : ℕ) → hole.low ≡ low → hole.high ≡ high → Run hole ≡ Run (record { low = low; high = high; run = hole.run })
 hole_is hole low high e f = ap (λ (low : ℕ). Run (record { low = low; high = hole.high; run = hole.run })) e ∙ ap (λ (high : ℕ). Run (record { low = low; high = high; run = hole.run })) f
@@ -104,7 +104,7 @@ fills_alone (Run hole) (Number words low high) fills = hole_is hole low high fil
 fills_alone (Run hole) (Word word) fills = absurd fills
 fills_alone (Run hole) Name fills = absurd fills
 fills_alone (Run hole) Hex fills = absurd fills
-fills_alone (Counted before hole after) slot fills = absurd fills
+fills_alone (WithCount before hole after) slot fills = absurd fills
 
 -- ---- a row
 
@@ -248,11 +248,11 @@ none_other row (other ∷ others) words tokens e fits has same =
 -- ---- tables, row by row
 
 -- what is found of these words is right by these rows
-pub record ByRows (A : Type 0) (rows : List (List Slot)) (words : List (List ℕ)) (found : Option (A × Mark)) : Type 0 where
-  pub judged : Judged (HasOneOf rows) words found
+pub record IsRightByRows (A : Type 0) (rows : List (List Slot)) (words : List (List ℕ)) (found : Option (A × Mark)) : Type 0 where
+  pub judged : IsRightBy (HasOneOf rows) words found
 
 module _ (A : Type 0) (row : List Slot) (rows : List (List Slot)) (words : List (List ℕ)) where
-  skipped : (found : Option (A × Mark)) → fits_row row words ≡ false → Judged (HasOneOf rows) words found → Judged (HasOneOf (row ∷ rows)) words found
+  skipped : (found : Option (A × Mark)) → fits_row row words ≡ false → IsRightBy (HasOneOf rows) words found → IsRightBy (HasOneOf (row ∷ rows)) words found
   skipped None e rest = λ tokens has same. by_row tokens same has
     where
       by_row : (tokens : List Token) → words ≡ words_of tokens → HasRow row tokens ⊎ HasOneOf rows tokens → ⊥
@@ -271,15 +271,15 @@ module _ (A : Type 0) (row : List Slot) (rows : List (List Slot)) (words : List 
       by_row others same (inl here) = wrong (sym (sym (row_complete row words others here same).0 ∙ e))
       by_row others same (inr there) = rest.alone others there same
 
-  tested : (found : A × Mark) (other : Option (A × Mark)) → is_apart row rows ≡ true → found.1 ≡ mark_of (row_tokens row words) → Judged (HasOneOf rows) words other →
-      Judged (HasOneOf (row ∷ rows)) words (if fits_row row words then Some found else other)
+  tested : (found : A × Mark) (other : Option (A × Mark)) → is_apart row rows ≡ true → found.1 ≡ mark_of (row_tokens row words) → IsRightBy (HasOneOf rows) words other →
+      IsRightBy (HasOneOf (row ∷ rows)) words (if fits_row row words then Some found else other)
   tested found other apart mark rest = by_test (fits_row row words) refl
     where
       by_row : fits_row row words ≡ true → (others : List Token) → words ≡ words_of others → HasRow row others ⊎ HasOneOf rows others → others ≡ row_tokens row words
       by_row fits others same (inl here) = (row_complete row words others here same).1
       by_row fits others same (inr there) = absurd (none_other row rows words others apart fits there same)
 
-      by_test : (b : Bool) → fits_row row words ≡ b → Judged (HasOneOf (row ∷ rows)) words (if b then Some found else other)
+      by_test : (b : Bool) → fits_row row words ≡ b → IsRightBy (HasOneOf (row ∷ rows)) words (if b then Some found else other)
       by_test true fits =
           let is = row_sound row words fits in
           record {
@@ -293,14 +293,14 @@ module _ (A : Type 0) (row : List Slot) (rows : List (List Slot)) (words : List 
 
 -- the words are of no such row
 pub skip_row : {A : Type 0} {row : List Slot} {rows : List (List Slot)} {words : List (List ℕ)} {found : Option (A × Mark)} →
-    fits_row row words ≡ false → ByRows A rows words found → ByRows A (row ∷ rows) words found
+    fits_row row words ≡ false → IsRightByRows A rows words found → IsRightByRows A (row ∷ rows) words found
 skip_row {A} {row} {rows} {words} {found} e rest = record { judged = skipped A row rows words found e rest.judged }
 
 -- the words are of the row where they pass its test
 pub at_row : {A : Type 0} {row : List Slot} {rows : List (List Slot)} {words : List (List ℕ)} {other : Option (A × Mark)} (found : A × Mark) →
-    is_apart row rows ≡ true → found.1 ≡ mark_of (row_tokens row words) → ByRows A rows words other → ByRows A (row ∷ rows) words (if fits_row row words then Some found else other)
+    is_apart row rows ≡ true → found.1 ≡ mark_of (row_tokens row words) → IsRightByRows A rows words other → IsRightByRows A (row ∷ rows) words (if fits_row row words then Some found else other)
 at_row {A} {row} {rows} {words} {other} found apart mark rest = record { judged = tested A row rows words found other apart mark rest.judged }
 
 -- no row is left
-pub no_rows : {A : Type 0} {words : List (List ℕ)} → ByRows A [] words None
+pub no_rows : {A : Type 0} {words : List (List ℕ)} → IsRightByRows A [] words None
 no_rows = record { judged = λ tokens has same. has }

@@ -10,7 +10,7 @@ use Rattle.kz_model.specs.Grammar.Form.{Draft, is_last}
 use Rattle.kz_bundle.proofs.Choices.{wrong, left, right, and_true, all_append, all_weaker}
 use Rattle.kz_bundle.proofs.Splits.{lacks, lacks_space, part_ends, last_part}
 use Rattle.kz_bundle.proofs.NameTexts.{name_dark}
-use Rattle.kz_grammar.specs.Forms.{Hole, Token, Text, Run, Counted, token_text, words_of, holes_of, EachHole, HasNoSpace, Slot, Word, Name, Hex, Number, HasRow, HasOneOf, header_rows, section_rows, order_rows, numbered, FieldForm, label_token, fields_tokens, body_tokens, AreFields, plain_kinds, IsKindOf, NoUnion, IsUnionOf, IsBodyOf, IsBody, IsTypeForm, IsForm, HasForm, IsTextOf}
+use Rattle.kz_grammar.specs.Forms.{Hole, Token, Text, Run, WithCount, token_text, words_of, holes_of, EachHole, HasNoSpace, Slot, Word, Name, Hex, Number, HasRow, HasOneOf, header_rows, section_rows, order_rows, number_rows, FieldForm, label_token, fields_tokens, body_tokens, AreFields, plain_kinds, IsKindOf, NoUnion, IsUnionOf, IsBodyOf, IsBody, IsTypeForm, IsForm, HasForm, IsTextOf}
 use Rattle.kz_grammar.specs.FormLaws.{FormsAreTexts}
 use Rattle.kz_grammar.proofs.Phrases.{words_append, holes_append}
 use Rattle.kz_grammar.proofs.KindForms.{no_head}
@@ -75,7 +75,7 @@ row_is (Number words low high ∷ slots) (Text text ∷ tokens) e has runs = abs
 row_is (Word word ∷ slots) (Run hole ∷ tokens) e has runs = absurd has.0
 row_is (Name ∷ slots) (Run hole ∷ tokens) e has runs = absurd has.0
 row_is (Hex ∷ slots) (Run hole ∷ tokens) e has runs = absurd has.0
-row_is (slot ∷ slots) (Counted before hole after ∷ tokens) e has runs = absurd has.0
+row_is (slot ∷ slots) (WithCount before hole after ∷ tokens) e has runs = absurd has.0
 
 rows_are : (rows : List (List Slot)) (tokens : List Token) → rows_clear rows ≡ true → HasOneOf rows tokens → AreRunsClear tokens → AreClear tokens
 rows_are [] tokens e has runs = absurd has
@@ -155,7 +155,7 @@ section_clear d = either (is_last d) _ _ refl refl
 form_clear : (p : Place) (d : Draft) (tokens : List Token) → IsForm p d tokens → AreRunsClear tokens → AreClear tokens
 form_clear (place.Header at) d tokens form runs = rows_are (header_rows at) tokens (header_clear at) form runs
 form_clear place.Types d tokens (inl form) runs = type_clear tokens form runs
-form_clear place.Types d tokens (inr form) runs = rows_are (numbered (codes "cpu") 0 0) tokens refl form runs
+form_clear place.Types d tokens (inr form) runs = rows_are (number_rows (codes "cpu") 0 0) tokens refl form runs
 form_clear place.Steps d tokens form runs = rows_are (section_rows d) tokens (section_clear d) form runs
 form_clear place.Order d tokens form runs = rows_are (order_rows d.header.cpus) tokens refl form runs
 form_clear place.Ended d tokens form runs = absurd form
@@ -164,7 +164,7 @@ form_clear place.Ended d tokens form runs = absurd form
 no_form : (p : Place) (d : Draft) → IsForm p d [] → ⊥
 no_form (place.Header at) d form = none_empty (header_rows at) (header_clear at) form
 no_form place.Types d (inl form) = no_head (codes "type") (form.name ∷ words_of form.body) (type_words [] [] form refl)
-no_form place.Types d (inr form) = none_empty (numbered (codes "cpu") 0 0) refl form
+no_form place.Types d (inr form) = none_empty (number_rows (codes "cpu") 0 0) refl form
 no_form place.Steps d form = none_empty (section_rows d) (section_clear d) form
 no_form place.Order d form = none_empty (order_rows d.header.cpus) refl form
 no_form place.Ended d form = form
@@ -203,7 +203,7 @@ runs_clear tokens e = by_tokens tokens e
     by_tokens [] e = tt
     by_tokens (Text text ∷ tokens) e = by_tokens tokens (right (clear text) (list_all clear (words_of tokens)) e)
     by_tokens (Run hole ∷ tokens) e = (left (clear hole.run) (list_all clear (words_of tokens)) e, by_tokens tokens (right (clear hole.run) (list_all clear (words_of tokens)) e))
-    by_tokens (Counted before hole after ∷ tokens) e =
+    by_tokens (WithCount before hole after ∷ tokens) e =
         let word = left (clear (before ++ codes "[" ++ hole.run ++ codes "]" ++ after)) (list_all clear (words_of tokens)) e in
         let run = back (before ++ codes "[") hole.run (front (before ++ codes "[" ++ hole.run) (codes "]") (front (before ++ codes "[" ++ hole.run ++ codes "]") after word)) in
         (run, by_tokens tokens (right (clear (before ++ codes "[" ++ hole.run ++ codes "]" ++ after)) (list_all clear (words_of tokens)) e))

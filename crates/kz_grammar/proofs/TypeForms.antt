@@ -8,8 +8,8 @@ use Rattle.kz_model.specs.Grammar.Tokens.{is, is_name}
 use Rattle.kz_model.specs.Grammar.TypeLine.{Phrase, body, ended, declared, type_line}
 use Rattle.kz_model.specs.Grammar.Form.{Line, Declares, Opens, Draft, as_line, is_head, cpu_line, line_of_types}
 use Rattle.kz_bundle.proofs.Choices.{wrong, left, right, and_true, is_same, is_itself}
-use Rattle.kz_grammar.specs.Forms.{Token, Text, words_of, HasOneOf, numbered, numbered_row, IsBody, IsTypeForm, IsForm}
-use Rattle.kz_grammar.proofs.Rows.{Judged, fits_row, row_complete}
+use Rattle.kz_grammar.specs.Forms.{Token, Text, words_of, HasOneOf, number_rows, number_row, IsBody, IsTypeForm, IsForm}
+use Rattle.kz_grammar.proofs.Rows.{IsRightBy, fits_row, row_complete}
 use Rattle.kz_grammar.proofs.Phrases.{Begins, Parses, same_rest}
 use Rattle.kz_grammar.proofs.KindForms.{nothing, only, same_head, same_tail, no_head}
 use Rattle.kz_grammar.proofs.BodyForms.{bodies_parse}
@@ -37,7 +37,7 @@ module _ (w name : List ℕ) (words : List (List ℕ)) where
       )
 
   module _ (first : w ≡ codes "type") (named : is_name name ≡ true) where
-    whole : (p : Phrase (List Field)) → Begins nothing (only (IsBody 8)) words p → (rest : List (List ℕ)) → p.rest ≡ rest → Judged {A = TypeDecl} IsTypeForm all (ended (record { name = name; fields = p.said }, p.mark) rest)
+    whole : (p : Phrase (List Field)) → Begins nothing (only (IsBody 8)) words p → (rest : List (List ℕ)) → p.rest ≡ rest → IsRightBy {A = TypeDecl} IsTypeForm all (ended (record { name = name; fields = p.said }, p.mark) rest)
     whole p begins [] none =
         record {
           tokens = Text (codes "type") ∷ Text name ∷ begins.tokens;
@@ -55,20 +55,20 @@ module _ (w name : List ℕ) (words : List (List ℕ)) where
         let same = sym is.2 ∙ begins.text ∙ ap (λ (rest : List (List ℕ)). words_of begins.tokens ++ rest) more ∙ ap (λ (t : List Token). words_of t ++ (x ∷ rest)) (sym one.1) in
         no_head x rest (same_rest (words_of form.body) [] (x ∷ rest) same)
 
-    by_body : (p : Option (Phrase (List Field))) → Parses nothing (only (IsBody 8)) words p → Judged IsTypeForm all (declared name p)
+    by_body : (p : Option (Phrase (List Field))) → Parses nothing (only (IsBody 8)) words p → IsRightBy IsTypeForm all (declared name p)
     by_body None none = λ tokens form text. none tt form.body [] form.is (parts tokens form text).2
     by_body (Some p) begins = whole p begins p.rest refl
 
   abbrev if_type : Bool → Option (TypeDecl × Mark)
   if_type b = if b then declared name (body 8 words) else None
 
-  by_first : (b : Bool) → (is (codes "type") w && is_name name) ≡ b → Judged IsTypeForm all (if_type b)
+  by_first : (b : Bool) → (is (codes "type") w && is_name name) ≡ b → IsRightBy IsTypeForm all (if_type b)
   by_first true e = by_body (is_same (codes "type") w (left (is (codes "type") w) (is_name name) e)) (right (is (codes "type") w) (is_name name) e) (body 8 words) (bodies_parse 8 words)
   by_first false e = λ tokens form text.
       let is_one = parts tokens form text in
       wrong (sym e ∙ and_true (is (codes "type") w) (is_name name) (ap (is (codes "type")) is_one.0 ∙ is_itself (codes "type")) (ap is_name is_one.1 ∙ form.named))
 
-type_judged : (words : List (List ℕ)) → Judged IsTypeForm words (type_line words)
+type_judged : (words : List (List ℕ)) → IsRightBy IsTypeForm words (type_line words)
 type_judged [] = λ tokens form text. no_head (codes "type") (form.name ∷ words_of form.body) (type_words [] tokens form text)
 type_judged (w ∷ []) = λ tokens form text. no_head form.name (words_of form.body) (same_tail w (codes "type") [] (form.name ∷ words_of form.body) (type_words (w ∷ []) tokens form text))
 type_judged (w ∷ name ∷ words) = by_first w name words (is (codes "type") w && is_name name) refl
@@ -76,23 +76,23 @@ type_judged (w ∷ name ∷ words) = by_first w name words (is (codes "type") w 
 -- ---- lines among types
 
 abbrev IsCpu : List Token → Type 0
-IsCpu = HasOneOf (numbered (codes "cpu") 0 0)
+IsCpu = HasOneOf (number_rows (codes "cpu") 0 0)
 
 type_head : (words : List (List ℕ)) (tokens : List Token) → IsTypeForm tokens → words ≡ words_of tokens → is_head (codes "type") words ≡ true
 type_head words tokens form text = ap (is_head (codes "type")) (type_words words tokens form text)
 
 cpu_head : (words : List (List ℕ)) (tokens : List Token) → IsCpu tokens → words ≡ words_of tokens → is_head (codes "type") words ≡ false
 cpu_head words tokens (inr none) text = absurd none
-cpu_head words tokens (inl has) text = by_words words (row_complete (numbered_row (codes "cpu") 0 0) words tokens has text).0
+cpu_head words tokens (inl has) text = by_words words (row_complete (number_row (codes "cpu") 0 0) words tokens has text).0
   where
-    by_words : (words : List (List ℕ)) → fits_row (numbered_row (codes "cpu") 0 0) words ≡ true → is_head (codes "type") words ≡ false
+    by_words : (words : List (List ℕ)) → fits_row (number_row (codes "cpu") 0 0) words ≡ true → is_head (codes "type") words ≡ false
     by_words [] e = refl
     by_words (w ∷ []) e = wrong e
     by_words (w ∷ n ∷ []) e = ap (is (codes "type")) (is_same (codes "cpu") w (left (is (codes "cpu") w) _ e))
     by_words (w ∷ n ∷ x ∷ words) e = wrong e
 
 module _ (F G : List Token → Type 0) (words : List (List ℕ)) where
-  only_left : (found : Option (Line × Mark)) → ((tokens : List Token) → G tokens → words ≡ words_of tokens → ⊥) → Judged F words found → Judged (λ tokens. F tokens ⊎ G tokens) words found
+  only_left : (found : Option (Line × Mark)) → ((tokens : List Token) → G tokens → words ≡ words_of tokens → ⊥) → IsRightBy F words found → IsRightBy (λ tokens. F tokens ⊎ G tokens) words found
   only_left None never judged = λ tokens form text. by_form tokens text form
     where
       by_form : (tokens : List Token) → words ≡ words_of tokens → F tokens ⊎ G tokens → ⊥
@@ -105,7 +105,7 @@ module _ (F G : List Token → Type 0) (words : List (List ℕ)) where
       by_form others text (inl form) = judged.alone others form text
       by_form others text (inr form) = absurd (never others form text)
 
-  only_right : (found : Option (Line × Mark)) → ((tokens : List Token) → F tokens → words ≡ words_of tokens → ⊥) → Judged G words found → Judged (λ tokens. F tokens ⊎ G tokens) words found
+  only_right : (found : Option (Line × Mark)) → ((tokens : List Token) → F tokens → words ≡ words_of tokens → ⊥) → IsRightBy G words found → IsRightBy (λ tokens. F tokens ⊎ G tokens) words found
   only_right None never judged = λ tokens form text. by_form tokens text form
     where
       by_form : (tokens : List Token) → words ≡ words_of tokens → F tokens ⊎ G tokens → ⊥
@@ -118,10 +118,10 @@ module _ (F G : List Token → Type 0) (words : List (List ℕ)) where
       by_form others text (inl form) = absurd (never others form text)
       by_form others text (inr form) = judged.alone others form text
 
-pub types_judged : (d : Draft) (words : List (List ℕ)) → Judged (IsForm place.Types d) words (line_of_types words)
+pub types_judged : (d : Draft) (words : List (List ℕ)) → IsRightBy (IsForm place.Types d) words (line_of_types words)
 types_judged d words = by_head (is_head (codes "type") words) refl
   where
-    by_head : (b : Bool) → is_head (codes "type") words ≡ b → Judged (IsForm place.Types d) words (if b then as_line Declares (type_line words) else cpu_line 0 words)
+    by_head : (b : Bool) → is_head (codes "type") words ≡ b → IsRightBy (IsForm place.Types d) words (if b then as_line Declares (type_line words) else cpu_line 0 words)
     by_head true e =
         only_left IsTypeForm IsCpu words (as_line Declares (type_line words)) (λ tokens form text. wrong (sym (cpu_head words tokens form text) ∙ e))
         (as_line_judged IsTypeForm words Declares (type_line words) (type_judged words))

@@ -18,12 +18,12 @@ pub record Hole : Type 0 where
 pub data Token : Type 0 where
   Text : List ℕ → Token  -- these bytes
   Run : Hole → Token  -- a number's place
-  Counted : List ℕ → Hole → List ℕ → Token  -- a number's place in brackets, with what stands before and after them
+  WithCount : List ℕ → Hole → List ℕ → Token  -- a number's place in brackets, with what stands before and after them
 
 abbrev pub token_text : Token → List ℕ
 token_text (Text text) = text
 token_text (Run hole) = hole.run
-token_text (Counted before hole after) = before ++ codes "[" ++ hole.run ++ codes "]" ++ after
+token_text (WithCount before hole after) = before ++ codes "[" ++ hole.run ++ codes "]" ++ after
 
 -- the words of a line
 abbrev pub words_of : List Token → List (List ℕ)
@@ -35,7 +35,7 @@ abbrev pub holes_of : List Token → List Hole
 holes_of [] = []
 holes_of (Text text ∷ tokens) = holes_of tokens
 holes_of (Run hole ∷ tokens) = hole ∷ holes_of tokens
-holes_of (Counted before hole after ∷ tokens) = hole ∷ holes_of tokens
+holes_of (WithCount before hole after ∷ tokens) = hole ∷ holes_of tokens
 
 abbrev pub EachHole : (Hole → Type 0) → List Hole → Type 0
 EachHole P [] = Unit {0}
@@ -81,26 +81,26 @@ abbrev pub HasOneOf : List (List Slot) → List Token → Type 0
 HasOneOf [] tokens = ⊥
 HasOneOf (row ∷ rows) tokens = HasRow row tokens ⊎ HasOneOf rows tokens
 
-abbrev pub numbered_row : List ℕ → ℕ → ℕ → List Slot
-numbered_row word low high = Word word ∷ Number [] low high ∷ []
+abbrev pub number_row : List ℕ → ℕ → ℕ → List Slot
+number_row word low high = Word word ∷ Number [] low high ∷ []
 
 -- `WORD N`
-abbrev pub numbered : List ℕ → ℕ → ℕ → List (List Slot)
-numbered word low high = numbered_row word low high ∷ []
+abbrev pub number_rows : List ℕ → ℕ → ℕ → List (List Slot)
+number_rows word low high = number_row word low high ∷ []
 
 -- the line of the header after so many
 abbrev pub header_rows : ℕ → List (List Slot)
 header_rows at =
-    if at == 0 then numbered (codes "machine") 1 1
+    if at == 0 then number_rows (codes "machine") 1 1
     else if at == 1
     then (Word (codes "seed") ∷ Word (codes "plain") ∷ [])
     ∷ (Word (codes "seed") ∷ Number (codes "plain" ∷ []) 0 (2 ^ 64 - 1) ∷ []) ∷ []
-    else if at == 2 then numbered (codes "cpus") 1 16
-    else if at == 3 then numbered (codes "frames") 1 8192
-    else if at == 4 then numbered (codes "pages") 1 4096
-    else if at == 5 then numbered (codes "budget") 1 128
-    else if at == 6 then numbered (codes "magazine") 1 32
-    else numbered (codes "depot") 0 16
+    else if at == 2 then number_rows (codes "cpus") 1 16
+    else if at == 3 then number_rows (codes "frames") 1 8192
+    else if at == 4 then number_rows (codes "pages") 1 4096
+    else if at == 5 then number_rows (codes "budget") 1 128
+    else if at == 6 then number_rows (codes "magazine") 1 32
+    else number_rows (codes "depot") 0 16
 
 abbrev pub step_rows : ℕ → List (List Slot)
 step_rows cpus =
@@ -122,7 +122,7 @@ section_rows d =
     (Word (codes "--") ∷ [])
     ∷ (if is_last d
     then (Word (codes "end") ∷ []) ∷ (Word (codes "order") ∷ []) ∷ step_rows d.header.cpus
-    else numbered_row (codes "cpu") (length d.before + 1) (length d.before + 1) ∷ step_rows d.header.cpus)
+    else number_row (codes "cpu") (length d.before + 1) (length d.before + 1) ∷ step_rows d.header.cpus)
 
 abbrev pub order_rows : ℕ → List (List Slot)
 order_rows cpus =
@@ -142,7 +142,7 @@ pub record FieldForm : Type 0 where
 -- `NAME` or `NAME[N]`, and what stands right after it
 abbrev pub label_token : List ℕ → Option Hole → List ℕ → Token
 label_token name None after = Text (name ++ after)
-label_token name (Some hole) after = Counted name hole after
+label_token name (Some hole) after = WithCount name hole after
 
 -- fields parted by `; `, and ` }` after the last
 abbrev pub fields_tokens : FieldForm → List FieldForm → List Token
@@ -212,7 +212,7 @@ pub record IsTypeForm (tokens : List Token) : Type 0 where
 -- a line of this form may stand at this place
 abbrev pub IsForm : Place → Draft → List Token → Type 0
 IsForm (place.Header at) d tokens = HasOneOf (header_rows at) tokens
-IsForm place.Types d tokens = IsTypeForm tokens ⊎ HasOneOf (numbered (codes "cpu") 0 0) tokens
+IsForm place.Types d tokens = IsTypeForm tokens ⊎ HasOneOf (number_rows (codes "cpu") 0 0) tokens
 IsForm place.Steps d tokens = HasOneOf (section_rows d) tokens
 IsForm place.Order d tokens = HasOneOf (order_rows d.header.cpus) tokens
 IsForm place.Ended d tokens = ⊥
