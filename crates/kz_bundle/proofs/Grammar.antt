@@ -16,7 +16,7 @@ use Rattle.kz_bundle.proofs.BodyReads.{closed_union}
 
 -- ---- marks
 
-worse_assoc : (a b c : Mark) → worse (worse a b) c ≡ worse a (worse b c)
+pub worse_assoc : (a b c : Mark) → worse (worse a b) c ≡ worse a (worse b c)
 worse_assoc BadNumber b c = refl
 worse_assoc OutOfRange BadNumber c = refl
 worse_assoc OutOfRange OutOfRange BadNumber = refl
@@ -25,7 +25,7 @@ worse_assoc OutOfRange OutOfRange Fine = refl
 worse_assoc OutOfRange Fine c = refl
 worse_assoc Fine b c = refl
 
-worse_fine : (a : Mark) → worse a Fine ≡ a
+pub worse_fine : (a : Mark) → worse a Fine ≡ a
 worse_fine BadNumber = refl
 worse_fine OutOfRange = refl
 worse_fine Fine = refl

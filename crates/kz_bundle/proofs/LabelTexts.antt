@@ -29,16 +29,16 @@ place_at p (x ∷ xs) y ys e f =
     let rest = place_at p xs y ys (or_right (p x) (list_any p xs) e) f in
     rw (or_left (p x) (list_any p xs) e) (omega (arith, rest))
 
-before_is : (p : ℕ → Bool) (xs : List ℕ) (y : ℕ) (ys : List ℕ) → list_any p xs ≡ false → p y ≡ true → before_first p (xs ++ y ∷ ys) ≡ xs
+pub before_is : (p : ℕ → Bool) (xs : List ℕ) (y : ℕ) (ys : List ℕ) → list_any p xs ≡ false → p y ≡ true → before_first p (xs ++ y ∷ ys) ≡ xs
 before_is p xs y ys e f = ap (λ n. take n (xs ++ y ∷ ys)) (place_at p xs y ys e f) ∙ take_at xs (y ∷ ys) (length xs) refl
 
-after_is : (p : ℕ → Bool) (xs : List ℕ) (y : ℕ) (ys : List ℕ) → list_any p xs ≡ false → p y ≡ true → after_first p (xs ++ y ∷ ys) ≡ ys
+pub after_is : (p : ℕ → Bool) (xs : List ℕ) (y : ℕ) (ys : List ℕ) → list_any p xs ≡ false → p y ≡ true → after_first p (xs ++ y ∷ ys) ≡ ys
 after_is p xs y ys e f =
     ap (λ n. drop (n + 1) (xs ++ y ∷ ys)) (place_at p xs y ys e f)
     ∙ ap (drop (length xs + 1)) (sym (append_assoc xs (y ∷ []) ys))
     ∙ drop_at (xs ++ y ∷ []) ys (length xs + 1) (length_push xs y)
 
-any_there : (p : ℕ → Bool) (xs : List ℕ) (y : ℕ) (ys : List ℕ) → p y ≡ true → list_any p (xs ++ y ∷ ys) ≡ true
+pub any_there : (p : ℕ → Bool) (xs : List ℕ) (y : ℕ) (ys : List ℕ) → p y ≡ true → list_any p (xs ++ y ∷ ys) ≡ true
 any_there p [] y ys f = rw f refl
 any_there p (x ∷ xs) y ys f = or_true (p x) (list_any p (xs ++ y ∷ ys)) (any_there p xs y ys f)
   where
@@ -59,7 +59,7 @@ pub record CutAt (p : ℕ → Bool) (xs : List ℕ) : Type 0 where
   pub passes : p at ≡ true
   pub parts : xs ≡ before ++ at ∷ after
 
-cut_at : (p : ℕ → Bool) (xs : List ℕ) → list_any p xs ≡ true → CutAt p xs
+pub cut_at : (p : ℕ → Bool) (xs : List ℕ) → list_any p xs ≡ true → CutAt p xs
 cut_at p [] e = wrong e
 cut_at p (x ∷ xs) e = by_first (p x) refl (λ f. cut_at p xs f) e
   where
@@ -78,14 +78,14 @@ cut_at p (x ∷ xs) e = by_first (p x) refl (λ f. cut_at p xs f) e
 
 -- ---- the last byte
 
-last_is : (xs : List ℕ) (y c : ℕ) → ends_with c (xs ++ y ∷ []) ≡ (y == c)
+pub last_is : (xs : List ℕ) (y c : ℕ) → ends_with c (xs ++ y ∷ []) ≡ (y == c)
 last_is xs y c =
     let long = length_push xs y in
     let some = is_below 0 (length (xs ++ y ∷ [])) (omega (arith, long)) in
     ap (λ b. b && (get_or (xs ++ y ∷ []) (length (xs ++ y ∷ []) - 1) 0 == c)) some
     ∙ ap (λ n. n == c) (get_or_push xs y 0 (length (xs ++ y ∷ []) - 1) (omega (arith, long)))
 
-without_last_is : (xs : List ℕ) (y : ℕ) → without_last (xs ++ y ∷ []) ≡ xs
+pub without_last_is : (xs : List ℕ) (y : ℕ) → without_last (xs ++ y ∷ []) ≡ xs
 without_last_is xs y = let long = length_push xs y in take_at xs (y ∷ []) (length (xs ++ y ∷ []) - 1) (omega (arith, long))
 
 -- a word with this last byte
@@ -99,7 +99,7 @@ last_byte c (b ∷ word) e = by_last (has_last b word)
         last.parts ∙ ap (λ c. last.before ++ c ∷ []) byte ∙ ap (λ (front : List ℕ). front ++ c ∷ []) (sym (without_last_is last.before last.last) ∙ sym (ap without_last last.parts))
 
 -- where this byte is not there, it is not the last
-no_last : (c : ℕ) (word : List ℕ) → list_any (λ b. b == c) word ≡ false → ends_with c word ≡ false
+pub no_last : (c : ℕ) (word : List ℕ) → list_any (λ b. b == c) word ≡ false → ends_with c word ≡ false
 no_last c word none = by_end (ends_with c word) refl
   where
     by_end : (b : Bool) → ends_with c word ≡ b → ends_with c word ≡ false

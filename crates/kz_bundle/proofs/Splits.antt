@@ -47,14 +47,14 @@ not_true true e = sym e
 not_true false e = refl
 
 -- a part that ends at a byte
-part_ends : (c : ℕ) (part rest : List ℕ) → (c == c) ≡ true → lacks c part ≡ true → slice_split (λ b. b == c) (part ++ c ∷ rest) ≡ part ∷ slice_split (λ b. b == c) rest
+pub part_ends : (c : ℕ) (part rest : List ℕ) → (c == c) ≡ true → lacks c part ≡ true → slice_split (λ b. b == c) (part ++ c ∷ rest) ≡ part ∷ slice_split (λ b. b == c) rest
 part_ends c [] rest same e = rw same refl
 part_ends c (b ∷ part) rest same e =
     let other : (b == c) ≡ false = not_true (b == c) (left (not (b == c)) (lacks c part) e) in
     rw other (ap (onto_first b) (part_ends c part rest same (right (not (b == c)) (lacks c part) e)))
 
 -- the last part
-last_part : (c : ℕ) (part : List ℕ) → lacks c part ≡ true → slice_split (λ b. b == c) part ≡ part ∷ []
+pub last_part : (c : ℕ) (part : List ℕ) → lacks c part ≡ true → slice_split (λ b. b == c) part ≡ part ∷ []
 last_part c [] e = refl
 last_part c (b ∷ part) e =
     let other : (b == c) ≡ false = not_true (b == c) (left (not (b == c)) (lacks c part) e) in

@@ -104,7 +104,7 @@ reached_next p d number line more few here is e = absurd is
 pub reached_more : (d : Draft) (number : ℕ) (line : Line) (more : Draft) → IsReached d → IsAllowed d.place d line → with_line d number line ≡ leads_to more → IsReached more
 reached_more d number line more reached is e = reached_next d.place d number line more reached.few reached.here is e
 
-in_header : (p : Place) (cpus before : ℕ) → Reached p cpus before → InHeader p
+pub in_header : (p : Place) (cpus before : ℕ) → Reached p cpus before → InHeader p
 in_header (place.Header at) cpus before here = here.0
 in_header place.Types cpus before here = tt
 in_header place.Steps cpus before here = tt
@@ -118,7 +118,7 @@ few_before place.Steps cpus before few here = omega (arith, here)
 few_before place.Order cpus before few here = omega (arith, here)
 few_before place.Ended cpus before few here = omega (arith, here)
 
-fits_reached : (d : Draft) → IsReached d → Fits d
+pub fits_reached : (d : Draft) → IsReached d → Fits d
 fits_reached d reached = record { cpus = reached.few; before = few_before d.place d.header.cpus (length d.before) reached.few reached.here }
 
 pub reached_first : IsReached empty_draft
@@ -144,14 +144,14 @@ judged_is p d number text more within e = by_found (line_at p d (tokens_of text)
         let says = line_says p d text line within is in
         record { line = line; text_is = says.0; allowed = says.1; led = e }
 
-after_line_is : (p : Place) (d : Draft) (number : ℕ) (text : List ℕ) (more : Draft) → InHeader p → after_line p d number (tokens_of text) ≡ leads_to more → Stepped p d number text more
+pub after_line_is : (p : Place) (d : Draft) (number : ℕ) (text : List ℕ) (more : Draft) → InHeader p → after_line p d number (tokens_of text) ≡ leads_to more → Stepped p d number text more
 after_line_is (place.Header at) d number text more within e = judged_is (place.Header at) d number text more within e
 after_line_is place.Types d number text more within e = judged_is place.Types d number text more within e
 after_line_is place.Steps d number text more within e = judged_is place.Steps d number text more within e
 after_line_is place.Order d number text more within e = judged_is place.Order d number text more within e
 after_line_is place.Ended d number text more within e = failed cause.Trailing more e
 
-after_line_reads : (p : Place) (d : Draft) (number : ℕ) (line : Line) → Fits d → IsAllowed p d line → after_line p d number (tokens_of (line_text line)) ≡ with_line d number line
+pub after_line_reads : (p : Place) (d : Draft) (number : ℕ) (line : Line) → Fits d → IsAllowed p d line → after_line p d number (tokens_of (line_text line)) ≡ with_line d number line
 after_line_reads (place.Header at) d number line fits is = ap (judged d number) (line_reads (place.Header at) d line fits is)
 after_line_reads place.Types d number line fits is = ap (judged d number) (line_reads place.Types d line fits is)
 after_line_reads place.Steps d number line fits is = ap (judged d number) (line_reads place.Steps d line fits is)
@@ -228,7 +228,7 @@ lines_inked d number (line ∷ lines) end reached leads =
 
 -- ---- the whole
 
-some_line : (text : List ℕ) → (line : List ℕ) × (lines : List (List ℕ)) × (lines_of text ≡ line ∷ lines)
+pub some_line : (text : List ℕ) → (line : List ℕ) × (lines : List (List ℕ)) × (lines_of text ≡ line ∷ lines)
 some_line text = by_lines (lines_of text) refl
   where
     by_lines : (lines : List (List ℕ)) → lines_of text ≡ lines → (line : List ℕ) × (more : List (List ℕ)) × (lines_of text ≡ line ∷ more)

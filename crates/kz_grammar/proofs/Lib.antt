@@ -1,0 +1,12 @@
+pub mod Rows
+pub mod Marks
+pub mod LineForms
+pub mod Phrases
+pub mod LabelForms
+pub mod KindForms
+pub mod BodyForms
+pub mod TypeForms
+pub mod Judgements
+pub mod LaterFaults
+pub mod Causes
+pub mod TextForms
