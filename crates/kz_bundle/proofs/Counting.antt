@@ -25,7 +25,7 @@ use Rattle.kz_model.proofs.Sums.{sum_below-same, sum_below-zero, sum_below-le, s
 use Rattle.kz_bundle.specs.declared.planned.counts.ZoneLines.{ZoneLines}
 use Rattle.kz_bundle.specs.Counted.{allocations_in, counted, counted_on, gifts_in, lines_before, no_lines, one_more}
 use Rattle.kz_bundle.proofs.InRange.{range_alike, range_set}
-use Rattle.kz_bundle.proofs.Zoned.{zone_there}
+use Rattle.kz_bundle.proofs.Zoned.{planned_is_valid, zone_there}
 
 abbrev lines_of : List ℕ → ℕ → ℕ → ZoneLines
 lines_of by_cpu allocating giving = record { by_cpu = by_cpu; allocating = allocating; giving = giving }
@@ -177,9 +177,9 @@ module _ (b : Bundle) (plan : Plan) (cpu at : ℕ) (table : List ZoneLines) (pla
         subst (AreFew cpu) (sym row_is)
         (record {
           there = omega (arith, long, low);
-          lines = omega (arith, mine, sum_below-one lines b.cpus cpu low, few_lines b plan cpu at found.0 planned.is_valid);
-          allocating = few_of b plan is_allocating cpu at found.0 planned.is_valid;
-          giving = few_of b plan is_giving cpu at found.0 planned.is_valid;
+          lines = omega (arith, mine, sum_below-one lines b.cpus cpu low, few_lines b plan cpu at found.0 (planned_is_valid planned));
+          allocating = few_of b plan is_allocating cpu at found.0 (planned_is_valid planned);
+          giving = few_of b plan is_giving cpu at found.0 (planned_is_valid planned);
         })
 
     pub row_counted : slice_set table found.0 (one_more cpu found.1 (slice_index_or table found.0 old)) ≡ counted b plan (lines_before b cpu (at + 1))

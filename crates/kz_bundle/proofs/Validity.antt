@@ -16,11 +16,13 @@ use Rattle.kz_model.specs.Grammar.Form.{StepLine, Section, Draft, empty_draft}
 use Rattle.kz_model.specs.Types.Layouts.{layouts_of}
 use Rattle.kz_model.specs.Types.Plan.{classes_in_use}
 use Rattle.kz_model.specs.Grammar.Stages.{else_fault, fault_if, Row, sections_of, step_lines, rows_of, type_names, cause_of, budget_fault, fault_of_layouts, types_fault, names_fault, rounds_of, order_fault, rounds_fault, later_fault, place_of, act_of, step_of, row_names, bundle_of}
-use Rattle.kz_model.specs.Grammar.Spelling.{IsDeclared}
+use Rattle.kz_model.specs.Grammar.Stages.{read}
+use Rattle.kz_model.specs.declared.bundle.Bundle.{Bundle}
+use Rattle.kz_model.specs.Grammar.Spelling.{IsDeclared, IsSpelled, Spells, bundle_text}
 use Rattle.kz_model.specs.Store.Traces.{AreNumbered}
 use Rattle.kz_model.specs.Grammar.Valid.{HasShortRead, IsStepWithin, ok_or_none, IsValid, ReadingIsValid}
 use Rattle.kz_bundle.proofs.Declared.{declared-AreInRange}
-use Rattle.kz_bundle.proofs.OneText.{some_fault, first_none, then_none, AllRounds, same_rounds}
+use Rattle.kz_bundle.proofs.OneText.{one_text, some_fault, first_none, then_none, AllRounds, same_rounds}
 use Rattle.kz_bundle.proofs.Table.{place_within}
 use Rattle.kz_bundle.proofs.ValidLines.{KeepsTo, IsStep, IsSection, count_of, IsTold, IsDraft, draft_first, draft_last, reached_last}
 use Rattle.kz_bundle.proofs.ValidOrder.{traces_in_rounds, all_counts, order_in_turn}
@@ -177,3 +179,15 @@ reading_is_valid bytes b e =
     let d = spells.said in
     subst IsValid (sym spells.bundle)
     (draft_valid d (draft_last empty_draft 1 spells.lines d draft_first spells.leads) (reached_last empty_draft 1 spells.lines d reached_first spells.leads) spells.ended spells.faultless)
+
+-- ---- what a text spells
+
+-- a bundle that is read is one that its own text spells
+pub reading_is_spelled : (bytes : List ℕ) (b : Bundle) → read bytes ≡ Ok b → IsSpelled b
+reading_is_spelled bytes b e =
+    let spells = (spelling_is_reading bytes b).0 e in
+    subst (λ text. Spells text b) (one_text bytes b spells) spells
+
+-- and such a bundle is valid
+pub spelled_is_valid : (b : Bundle) → IsSpelled b → IsValid b
+spelled_is_valid b spelled = reading_is_valid (bundle_text b) b ((spelling_is_reading (bundle_text b) b).1 spelled)

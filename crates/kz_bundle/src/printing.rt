@@ -2,10 +2,9 @@
 ghost use Rattle.std.specs.Prelude.{◌≡◌, ◌<◌, ◌≤◌, [], ◌∷◌, ◌++◌, length, map, replicate, codes, decimal, All, IfOk, OnOk};
 ghost use Rattle.std.specs.List.{flat_map, enumerate_from};
 ghost use Rattle.kz_model.specs.Grammar.Form.{Break, Declares};
-ghost use Rattle.kz_model.specs.Grammar.Spelling.{numbered, seed_text, named_step_text, named_step_of, text_at, names_in, types_in, header_lines, section_lines, cpu_lines, turn_of, order_lines, bundle_text};
+ghost use Rattle.kz_model.specs.Grammar.Spelling.{numbered, seed_text, named_step_text, named_step_of, text_at, names_in, types_in, header_lines, section_lines, cpu_lines, turn_of, order_lines, bundle_text, IsSpelled, Spells};
 ghost use Rattle.kz_model.specs.Text.Lines.{hex_bytes};
 ghost use Rattle.kz_model.specs.Store.Traces.{AreNumbered};
-ghost use Rattle.kz_model.specs.Grammar.Valid.{IsValid};
 ghost use Rattle.kz_bundle.specs.Printing.{lines_text, AreStepsWithin};
 
 use kz_model::{Act, Bundle, Items, OrderLine, Seed, Trace, Types};
@@ -14,8 +13,9 @@ use std::alloc::{AllocError, Global};
 
 /// The one text that reads as this bundle.
 pub fn print_bundle(alloc: Global, bundle: &Bundle) -> Result<Vec<u8>, AllocError>
-    requires { IsValid bundle.now }
-    ensures { IfOk result (λ text. text.items ≡ bundle_text bundle.now) }
+    requires { IsSpelled bundle.now }
+    ensures text { IfOk result (λ text. text.items ≡ bundle_text bundle.now) }
+    ensures spelled { IfOk result (λ text. Spells text.items bundle.now) }
 {
     let mut out = Vec::new(alloc);
     print_header(&mut out, bundle)?;

@@ -3,7 +3,7 @@ ghost use Rattle.std.specs.Prelude.{◌≡◌, ◌≤◌, Ok, Err, Some, None, l
 ghost use Rattle.kz_model.specs.declared.grammar.Refusal.{Refusal as TheRefusal};
 ghost use Rattle.kz_model.specs.Store.Traces.{renumbered_step};
 ghost use Rattle.kz_model.specs.Grammar.Stages.{read, later_fault, bundle_of as bundle_of_draft};
-ghost use Rattle.kz_model.specs.Grammar.Spelling.{Spells, IsFirstFault};
+ghost use Rattle.kz_model.specs.Grammar.Spelling.{Spells, IsSpelled, IsFirstFault};
 ghost use Rattle.kz_model.specs.Types.Layouts.{layouts_of};
 ghost use Rattle.kz_model.specs.Grammar.Valid.{IsValid, layouts_in};
 ghost use Rattle.kz_layout.specs.Laid.{IsSize};
@@ -109,6 +109,7 @@ pub fn read_with_layouts(
     requires { length bytes.now ≤ 33554432 }
     ensures spells { IfOk result (λ read. Spells bytes.now read.0) }
     ensures read { IfOk result (λ found. read bytes.now ≡ Ok found.0) }
+    ensures spelled { IfOk result (λ read. IsSpelled read.0) }
     ensures valid { IfOk result (λ read. IsValid read.0) }
     ensures layouts { IfOk result (λ read. read.1.items ≡ layouts_in read.0) }
     ensures few { IfOk result (λ read. length read.1.items ≤ 1024) }
@@ -125,6 +126,7 @@ pub fn read_bundle(alloc: Global, bytes: &[u8]) -> Result<Bundle, ReadBundleFaul
     requires { length bytes.now ≤ 33554432 }
     ensures spells { IfOk result (λ b. Spells bytes.now b) }
     ensures read { IfOk result (λ b. read bytes.now ≡ Ok b) }
+    ensures spelled { IfOk result IsSpelled }
     ensures valid { IfOk result IsValid }
     ensures refused { (refusal : TheRefusal) → result ≡ Err (ReadBundleFault.Refused refusal) →
         IsFirstFault bytes.now refusal }

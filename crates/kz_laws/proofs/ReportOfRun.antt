@@ -73,9 +73,8 @@ same_journals b zones journals others long as_long told other e =
         (each-weaker (IsInRange b) (λ (v : Visit). v.round < b.rounds) (λ v is. is.round) (slice_index_or journals zone []) (told zone lt).in_range)
 
 pub report_names_its_run : ReportNamesItsRun
-report_names_its_run b plan journals others log another is run other e =
-    let fit = plans_are_fit b plan is in
-    let valid = is.is_valid in
+report_names_its_run b plan journals others log another valid is_plan run other e =
+    let fit = plans_are_fit b plan valid is_plan in
     let zones = length plan.zones in
     let told = journal_is_told b plan journals log valid run in
     let other_told = journal_is_told b plan others another valid other in

@@ -12,11 +12,11 @@ use Rattle.kz_model.specs.Run.Recorded.{IsOfOrder}
 use Rattle.kz_model.specs.Run.Runs.{IsRun}
 use Rattle.kz_laws.proofs.Isolated.{runs_are_isolated}
 use Rattle.kz_laws.proofs.OrderIsRun.{order_is_run}
-use Rattle.kz_plan.proofs.Fit.{plans_are_fit}
+use Rattle.kz_bundle.proofs.Zoned.{planned_is_fit, planned_is_valid}
 
 -- the run of the order is a run
 pub run_of_order : (b : Bundle) (plan : Plan) → IsPlanned b plan → let run = order_run b plan in IsRun b plan run.journals run.log
-run_of_order b plan h = order_is_run b plan h.is_valid (plans_are_fit b plan h).zones
+run_of_order b plan h = order_is_run b plan (planned_is_valid h) (planned_is_fit h).zones
 
 -- so is what a record of it has
 pub record_is_run : (b : Bundle) (plan : Plan) (made : Record) → IsPlanned b plan → IsOfOrder b plan made → IsRun b plan made.visits made.supply
@@ -26,4 +26,4 @@ record_is_run b plan made h of_order =
 
 pub record_is_isolated : (b : Bundle) (plan : Plan) (made : Record) → IsPlanned b plan → IsOfOrder b plan made → IsIsolated b plan made.visits made.supply
 record_is_isolated b plan made h of_order =
-    runs_are_isolated b plan made.visits made.supply h.is_valid (plans_are_fit b plan h).rows (record_is_run b plan made h of_order)
+    runs_are_isolated b plan made.visits made.supply (planned_is_valid h) (planned_is_fit h).rows (record_is_run b plan made h of_order)

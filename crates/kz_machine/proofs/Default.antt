@@ -19,6 +19,7 @@ use Rattle.kz_model.proofs.TraceRounds.{steps_within}
 use Rattle.kz_machine.specs.Left.{IsLeft, turns_from, rounds_after, turns_of, rounds_in, lines_until, IsRest, has_line_at}
 use Rattle.kz_machine.specs.Machine.{Machine, replies_at}
 use Rattle.kz_machine.proofs.Played.{turns_of-append, rounds_in-append, left_round, left_replies, left_turn, place_is}
+use Rattle.kz_bundle.proofs.Zoned.{planned_is_valid}
 
 -- ---- a CPU's turns
 
@@ -267,7 +268,7 @@ module _ (b : Bundle) (plan : Plan) (m : Machine) (cpu round : ℕ) (rest : List
 
   -- so its lines are done one by one
   pub line_next : (n : ℕ) → IsLeft b plan m (replicate n (Cpu cpu) ++ rest) → has_line_at (trace_of b cpu) (length (replies_at m.replies cpu).items) round ≡ true → (k : ℕ) × IsLeft b plan m (Cpu cpu ∷ (replicate k (Cpu cpu) ++ rest))
-  line_next zero left has = absurd (no_line_is_left left left.at.planned.is_valid has)
+  line_next zero left has = absurd (no_line_is_left left (planned_is_valid left.at.planned) has)
   line_next (suc k) left has = (k, left)
 
   pub none_next : (n : ℕ) → IsLeft b plan m (replicate n (Cpu cpu) ++ rest) → has_line_at (trace_of b cpu) (length (replies_at m.replies cpu).items) round ≡ false → IsLeft b plan m rest

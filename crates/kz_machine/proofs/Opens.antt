@@ -34,6 +34,7 @@ use Rattle.kz_machine.specs.Needs.{needed_of, needed_rooms, allocations_of, most
 use Rattle.kz_machine.specs.Opening.{IsOpened, AreOpened}
 use Rattle.kz_machine.specs.Stands.{IsCpuAt, IsZoneAt, StandsForPlay}
 use Rattle.kz_machine.proofs.Fit.{room_here, rooms_long, steps_here}
+use Rattle.kz_bundle.proofs.Zoned.{planned_is_valid}
 
 -- ---- a CPU
 
@@ -160,7 +161,7 @@ module _ (b : Bundle) (plan : Plan) where
       m.replies ≡ map (λ trace. record { room = length trace; items = [] }) b.traces → m.round ≡ 0 → HasRecordRoom (needed_rooms b plan) b.cpus m.record_room →
       StandsForPlay b plan m (opening_play b plan)
   opens_at m planned fit cpus books rooms supply replies round record_room =
-      let traces = planned.is_valid.traces in
+      let traces = (planned_is_valid planned).traces in
       let said : List TraceStep → RepliesSoFar = λ trace. record { room = length trace; items = [] } in
       record {
         planned = planned;

@@ -20,6 +20,7 @@ use Rattle.kz_machine.specs.Left.{IsLeft, turns_of, rounds_in}
 use Rattle.kz_machine.specs.Machine.{Machine, replies_at}
 use Rattle.kz_machine.specs.Stands.{StandsForPlay, IsTurn, IsRoundsEnd}
 use Rattle.kz_machine.proofs.Fit.{has_elements}
+use Rattle.kz_bundle.proofs.Zoned.{planned_is_valid}
 
 -- ---- what is played, line by line
 
@@ -84,7 +85,7 @@ module _ (b : Bundle) (plan : Plan) (m : Machine) (left : List OrderLine) (is : 
   now_played = play_after_lines b plan is.lines
 
   pub left_sound : IsPlayedAt b plan is.lines now_played
-  left_sound = plays_are_sound b plan is.at.planned.is_valid is.at.fit.zones (has_elements b plan is.at.fit) is.lines left is.parted
+  left_sound = plays_are_sound b plan (planned_is_valid is.at.planned) is.at.fit.zones (has_elements b plan is.at.fit) is.lines left is.parted
 
   pub may_end : IsRoundsEnd b plan now_played
   may_end = record { sound = left_sound.sound; within = left_sound.round }
@@ -119,7 +120,7 @@ module _ (b : Bundle) (plan : Plan) (m : Machine) (cpu : ℕ) (rest : List Order
   s = play_after_lines b plan is.lines
 
   pub left_turn : HasTurn b plan s cpu
-  left_turn = turns_have_lines b plan is.at.planned.is_valid is.at.fit.zones is.lines rest cpu is.parted
+  left_turn = turns_have_lines b plan (planned_is_valid is.at.planned) is.at.fit.zones is.lines rest cpu is.parted
 
   pub turn_is : (zone : ℕ) (step : Step) → addressed b plan (line_to_play b s cpu).act ≡ (zone, step) → IsTurn b plan s cpu zone step
   turn_is zone step line = record { sound = (left_sound b plan m (Cpu cpu ∷ rest) is).sound; turn = left_turn; line = line }

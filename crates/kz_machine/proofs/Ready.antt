@@ -46,6 +46,7 @@ use Rattle.kz_machine.proofs.Frames.{supply_of, in_submap as submap_fits, unmapp
 use Rattle.kz_machine.proofs.Fit.{params_fit, steps_here}
 use Rattle.kz_model.proofs.Sums.{sum_below-one}
 use Rattle.kz_machine.proofs.Lines.{entries_are, sum_below-room, sum_below-twice, log_spread}
+use Rattle.kz_bundle.proofs.Zoned.{planned_is_valid}
 
 -- ---- a line's step
 
@@ -123,7 +124,7 @@ module _ (b : Bundle) (plan : Plan) (m : Machine) (s : Play) (cpu zone : ℕ) (s
   z = zone_play s zone
 
   abbrev valid : IsValid b
-  valid = at.planned.is_valid
+  valid = planned_is_valid at.planned
 
   pub is_cpu : cpu < b.cpus
   is_cpu = turn.turn.is_cpu

@@ -10,6 +10,7 @@ use Rattle.kz_machine.specs.Lookups.{book_at}
 use Rattle.kz_machine.specs.Machine.{Machine}
 use Rattle.kz_machine.specs.Settling.{AreSettled}
 use Rattle.kz_machine.specs.Stands.{IsZoneAt, StandsForPlay, IsRoundsEnd}
+use Rattle.kz_bundle.proofs.Zoned.{planned_is_valid}
 
 module _ (m : Machine) (b : Bundle) (plan : Plan) (s : Play) (at : StandsForPlay b plan m s) where
   pub few_books : length m.books < 2 ^ 32
@@ -28,7 +29,7 @@ module _ (m : Machine) (b : Bundle) (plan : Plan) (s : Play) (at : StandsForPlay
 
   module _ (end : IsRoundsEnd b plan s) where
     pub rounds_few : m.round + 1 < 2 ^ 32
-    rounds_few = let within = end.within in let few = at.planned.is_valid.rounds.1 in let round = at.round in omega arith
+    rounds_few = let within = end.within in let few = (planned_is_valid at.planned).rounds.1 in let round = at.round in omega arith
 
     -- all zones have
     pub round_keeps : (cpus : List Cpu) (books : List Book) (n : ℕ) → n ≡ length m.books → AreSettled b plan s n cpus books → StandsForPlay b plan (record m { cpus = cpus; books = books; round = m.round + 1 }) (play_after_round b s)

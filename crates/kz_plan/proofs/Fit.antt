@@ -143,4 +143,4 @@ module _ (b : Bundle) (is : IsValid b) where
   }
 
 pub plans_are_fit : PlansAreFit
-plans_are_fit b plan is = subst (IsFitPlan b) (sym is.is_plan) (plan-fit b is.is_valid)
+plans_are_fit b plan valid is_plan = subst (IsFitPlan b) (sym is_plan) (plan-fit b valid)

@@ -25,6 +25,7 @@ use Rattle.kz_model.proofs.TraceRounds.{trace_by_rounds, steps_within}
 use Rattle.kz_report.specs.Lines.{IsReportable, said, rounds_left, mapped_line, visits_after}
 use Rattle.kz_report.proofs.AnsweredLines.{AreBases, length-of_rounds, rounds_same, said_rounds}
 use Rattle.kz_report.proofs.VisitLines.{RiseWithin, rises, visits_same}
+use Rattle.kz_bundle.proofs.Zoned.{planned_is_valid}
 
 -- ---- the rows
 
@@ -49,7 +50,7 @@ pub record HasSection (b : Bundle) (plan : Plan) (made : Record) (cpu : ℕ) : T
 
 pub has_section : (b : Bundle) (plan : Plan) (made : Record) (cpu : ℕ) → IsReportable b plan made → cpu < b.cpus → HasSection b plan made cpu
 has_section b plan made cpu h lt =
-    let rounds = trace_by_rounds b h.planned.is_valid cpu in
+    let rounds = trace_by_rounds b (planned_is_valid h.planned) cpu in
     let replies = h.answered.replies cpu lt in
     let there = cpu_replies b plan made.visits made.supply cpu in
     record {
@@ -144,7 +145,7 @@ visits_rise b plan made zone h lt =
       | true ↦ λ e. grind arith
       | false ↦ λ e.
           let past : b.rounds ≤ v.round = grind arith in
-          absurd (omega (arith, each_counts visits _ run.carries k d below, carried_there visits k d below, run.complete v.cpu v.round, no_steps b plan v.cpu zone v.round h.planned.is_valid past))
+          absurd (omega (arith, each_counts visits _ run.carries k d below, carried_there visits k d below, run.complete v.cpu v.round, no_steps b plan v.cpu zone v.round (planned_is_valid h.planned) past))
     ] refl)
 
 pub visits_written : (b : Bundle) (plan : Plan) (made : Record) (zone : ℕ) (visits : List Visit) (s t : List ℕ) → IsReportable b plan made → zone < length plan.zones → visits ≡ slice_index_or made.visits zone [] →

@@ -18,6 +18,7 @@ use Rattle.kz_model.specs.Types.Planned.{IsPlanned}
 use Rattle.kz_model.specs.Grammar.Tokens.{is_name, is_name_byte, is_small, is_digit}
 use Rattle.kz_model.specs.Grammar.Valid.{ok_or_none, layouts_in}
 use Rattle.kz_report.specs.Lines.{AreText}
+use Rattle.kz_bundle.proofs.Zoned.{planned_is_valid}
 
 -- ---- names
 
@@ -102,11 +103,11 @@ layouts_long decls layouts e = by_types (types_from (record { names = names_of d
 
 pub are_text : (b : Bundle) (plan : Plan) (layouts : List Layout) → IsPlanned b plan → layouts ≡ layouts_in b → AreText b plan layouts
 are_text b plan layouts h are_layouts =
-    let long : length (layouts_in b) ≡ length b.types = layouts_long b.types (layouts_in b) h.is_valid.laid_out in
+    let long : length (layouts_in b) ≡ length b.types = layouts_long b.types (layouts_in b) (planned_is_valid h).laid_out in
     let P : List Layout → Type 0 = λ layouts. All (λ layout. IsAscii layout.letters) layouts in
     record {
       laid_out = ap (λ (layouts : List Layout). length layouts) are_layouts ∙ long;
       zoned = ap (λ (plan : Plan). length plan.of_type) h.is_plan ∙ length-map (layouts_in b) (zone_among (deals_of (layouts_in b) b.budget b.seed) (general_count (layouts_in b) b.budget) (data_classes (layouts_in b))) ∙ long;
-      names = names_ascii b.types h.is_valid.type_names;
+      names = names_ascii b.types (planned_is_valid h).type_names;
       letters = subst P (sym are_layouts) (letters_ascii (types_from (record { names = names_of b.types; earlier = [] }) b.types));
     }

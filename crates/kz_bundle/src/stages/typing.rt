@@ -5,7 +5,8 @@ ghost use Rattle.std.specs.Prelude.{◌≡◌, ◌≢◌, ◌+◌, ◌<◌, ◌�
 ghost use Rattle.kz_model.specs.Store.TypeLines.{no_decl};
 ghost use Rattle.kz_model.specs.Types.Layouts.{layouts_of, names_of, IsSoundField};
 ghost use Rattle.kz_model.specs.Grammar.Stages.{budget_fault as short_budget, cause_of, fault_of_layouts};
-ghost use Rattle.kz_model.specs.Grammar.Valid.{layouts_in, IsValid};
+ghost use Rattle.kz_model.specs.Grammar.Spelling.{IsSpelled};
+ghost use Rattle.kz_model.specs.Grammar.Valid.{layouts_in};
 ghost use Rattle.kz_layout.specs.Laid.{HasLaidOut, IsSize};
 
 use crate::ReadBundleFault;
@@ -145,7 +146,7 @@ pub fn read_types(alloc: Global, budget: u32, types: &Types) -> Result<Vec<Layou
 
 /// The layouts of a bundle's types.
 pub fn bundle_layouts(alloc: Global, bundle: &Bundle) -> Result<Vec<Layout>, AllocError>
-    requires { IsValid bundle.now }
+    requires { IsSpelled bundle.now }
     ensures layouts { IfOk result (λ all. all.items ≡ layouts_in bundle.now) }
     ensures few { IfOk result (λ all. length all.items ≤ 1024) }
     ensures sizes { IfOk result (λ all. All IsSize all.items) }

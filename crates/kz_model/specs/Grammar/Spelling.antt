@@ -250,6 +250,10 @@ bundle_lines b =
 abbrev pub bundle_text : Bundle → List ℕ
 bundle_text b = text_of_lines (map line_text (bundle_lines b))
 
+-- the bundle is one that a text spells: its own
+abbrev pub IsSpelled : Bundle → Type 0
+IsSpelled b = Spells (bundle_text b) b
+
 -- ---- laws
 
 -- what is spelled is what is read

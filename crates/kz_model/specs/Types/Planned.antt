@@ -6,6 +6,7 @@ use Rattle.kz_model.specs.declared.record.Plan.{Plan}
 use Rattle.kz_model.specs.declared.record.ZoneRow.{ZoneRow}
 use Rattle.kz_model.specs.Types.Class.{IsFitGeometry}
 use Rattle.kz_model.specs.Run.Journal.{zone_of_type}
+use Rattle.kz_model.specs.Grammar.Spelling.{IsSpelled}
 use Rattle.kz_model.specs.Grammar.Valid.{IsValid, plan_in}
 
 -- ---- what a plan has for a bundle
@@ -32,11 +33,11 @@ pub record IsFitPlan (b : Bundle) (plan : Plan) : Type 0 where
   pub rows : All IsFitRow plan.zones
   pub few : length plan.zones ≤ 160
 
--- the plan is the bundle's
+-- A text spells the bundle, and the plan is the bundle's.
 pub record IsPlanned (b : Bundle) (plan : Plan) : Type 0 where
-  pub is_valid : IsValid b
+  pub spelled : IsSpelled b
   pub is_plan : plan ≡ plan_in b
 
 -- the plan of a valid bundle is fit
 abbrev pub PlansAreFit : Type 0
-PlansAreFit = (b : Bundle) (plan : Plan) → IsPlanned b plan → IsFitPlan b plan
+PlansAreFit = (b : Bundle) (plan : Plan) → IsValid b → plan ≡ plan_in b → IsFitPlan b plan

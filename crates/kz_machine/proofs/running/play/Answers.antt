@@ -6,6 +6,7 @@ use Rattle.kz_model.specs.Run.Journal.{no_step}
 use Rattle.kz_machine.specs.Stands.{StandsForPlay}
 use Rattle.kz_machine.proofs.Lines.{trace_few}
 use Rattle.kz_machine.proofs.Played.{left_within, left_turn, turn_is, place_is, line_done, now_played}
+use Rattle.kz_bundle.proofs.Zoned.{planned_is_valid}
 use Rattle.kz_machine.proofs.running.play.Goals as goal
 
 pub replied-at-requires : goal.replied-at-requires
@@ -16,7 +17,7 @@ overflow_cast-at c =
     let left = c.requires.1 in
     let turn = left_turn _ _ _ c.args.cpu c.requires.0 left in
     let place = c.replied-at.ensures ∙ place_is _ _ _ c.args.cpu c.requires.0 left in
-    let few = trace_few c.args.bundle.now c.args.cpu left.at.planned.is_valid turn.is_cpu in
+    let few = trace_few c.args.bundle.now c.args.cpu (planned_is_valid left.at.planned) turn.is_cpu in
     omega (arith, place, few, turn.some)
 
 pub addressed-zone-requires-clause-cpu : goal.addressed-zone-requires-clause-cpu

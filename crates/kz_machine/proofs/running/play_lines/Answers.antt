@@ -2,6 +2,7 @@ use Rattle.std.proofs.Common.{◌<◌, ◌++◌, replicate, sym, ◌∙◌, subs
 use Rattle.kz_model.specs.declared.bundle.OrderLine.TheVariants.{Cpu}
 use Rattle.kz_machine.proofs.Default.{line_next, none_next, one_fewer}
 use Rattle.kz_machine.proofs.Played.{left_within}
+use Rattle.kz_bundle.proofs.Zoned.{planned_is_valid}
 use Rattle.kz_machine.proofs.running.play_lines.Goals as goal
 
 pub has_line-requires-clause-replies : goal.has_line-requires-clause-replies
@@ -11,7 +12,7 @@ has_line-requires-clause-replies c =
     left_within c.args.bundle.now c.args.plan.now c.loop-machine.machine (replicate left.0 (Cpu c.args.cpu) ++ r.1) left.1 c.args.cpu r.3.is_cpu
 
 pub has_line-requires-clause-traces : goal.has_line-requires-clause-traces
-has_line-requires-clause-traces c = let r = c.requires in subst (λ n. c.args.cpu < n) (sym r.2.at.planned.is_valid.traces) r.3.is_cpu
+has_line-requires-clause-traces c = let r = c.requires in subst (λ n. c.args.cpu < n) (sym (planned_is_valid r.2.at.planned).traces) r.3.is_cpu
 
 pub play-requires : goal.play-requires
 play-requires c =

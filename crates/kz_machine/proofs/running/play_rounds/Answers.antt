@@ -6,12 +6,13 @@ use Rattle.kz_laws.specs.Play.{play_after_lines}
 use Rattle.kz_machine.specs.Left.{IsLeft}
 use Rattle.kz_machine.proofs.Default.{round_parted, order_parted, round_next}
 use Rattle.kz_machine.proofs.Played.{may_end, round_done}
+use Rattle.kz_bundle.proofs.Zoned.{planned_is_valid}
 use Rattle.kz_machine.proofs.running.play_rounds.Goals as goal
 
 pub play_round-requires-clause-left : goal.play_round-requires-clause-left
 play_round-requires-clause-left c =
     let left = c.requires.left in
-    let some = left.at.planned.is_valid.rounds.0 in
+    let some = (planned_is_valid left.at.planned).rounds.0 in
     subst (λ (l : List OrderLine). IsLeft c.args.bundle.now c.args.plan.now c.args.machine.now l) (order_parted c.args.bundle.now c.requires.order (omega arith)) left
 
 pub end_round-requires : goal.end_round-requires

@@ -7,6 +7,7 @@ use Rattle.kz_laws.proofs.Prefixes.{runs_end_sound}
 use Rattle.kz_machine.proofs.Apart.{record_is_isolated}
 use Rattle.kz_machine.proofs.Fit.{has_elements}
 use Rattle.kz_machine.proofs.Played.{now_played, may_end, run_done}
+use Rattle.kz_bundle.proofs.Zoned.{planned_is_valid}
 use Rattle.kz_machine.proofs.running.replay.Goals as goal
 
 pub play_order-requires : goal.play_order-requires
@@ -26,7 +27,7 @@ finish-requires c =
     let m = c.play_order.new.machine in
     let left = c.play_order.ensures in
     let at = run_done b plan m c.end_round.new.self left (c.end_round.ensures b plan (now_played b plan m [] left) left.at (may_end b plan m [] left)) in
-    (b, plan, play_run b plan, at, runs_end_sound b plan c.requires.is_valid at.fit.zones (has_elements b plan at.fit))
+    (b, plan, play_run b plan, at, runs_end_sound b plan (planned_is_valid c.requires) at.fit.zones (has_elements b plan at.fit))
 
 pub returns-clause-order : goal.returns-clause-order
 returns-clause-order c =
@@ -35,8 +36,8 @@ returns-clause-order c =
     let m = c.play_order.new.machine in
     let left = c.play_order.ensures in
     let at = run_done b plan m c.end_round.new.self left (c.end_round.ensures b plan (now_played b plan m [] left) left.at (may_end b plan m [] left)) in
-    let sound = runs_end_sound b plan c.requires.is_valid at.fit.zones (has_elements b plan at.fit) in
-    subst (λ (made : Record). IsOfOrder b plan made) (sym (c.finish.ensures b plan (play_run b plan) at sound)) (ordered_runs_are_played b plan c.requires.is_valid at.fit.zones)
+    let sound = runs_end_sound b plan (planned_is_valid c.requires) at.fit.zones (has_elements b plan at.fit) in
+    subst (λ (made : Record). IsOfOrder b plan made) (sym (c.finish.ensures b plan (play_run b plan) at sound)) (ordered_runs_are_played b plan (planned_is_valid c.requires) at.fit.zones)
 
 pub returns-clause-isolated : goal.returns-clause-isolated
 returns-clause-isolated c =

@@ -6,6 +6,7 @@ use Rattle.kz_report.proofs.BasePages.{are_bases}
 use Rattle.kz_report.proofs.Lookups.{item_is}
 use Rattle.kz_report.proofs.PlanText.{more_lines}
 use Rattle.kz_report.proofs.Reportable.{has_section, section_written}
+use Rattle.kz_bundle.proofs.Zoned.{planned_is_valid}
 use Rattle.kz_report.proofs.rounds.write_cpus.Goals as goal
 
 pub write_rounds-requires-clause-replies : goal.write_rounds-requires-clause-replies
@@ -14,7 +15,7 @@ write_rounds-requires-clause-replies c =
     let b = c.args.given.now.bundle.now in
     let made = c.args.made.now in
     let h = c.requires.record in
-    let trace = item_is b.traces c.as_slice.result.now cpu c.index-as_slice-cpu.result [] (omega (arith, h.planned.is_valid.traces, c.loop-cpu-test.true)) c.as_slice.ensures c.index-as_slice-cpu.is in
+    let trace = item_is b.traces c.as_slice.result.now cpu c.index-as_slice-cpu.result [] (omega (arith, (planned_is_valid h.planned).traces, c.loop-cpu-test.true)) c.as_slice.ensures c.index-as_slice-cpu.is in
     let replies = item_is made.replies c.as_slice-in-loop-cpu.result.now cpu c.index-as_slice-cpu-in-loop-cpu.result [] (omega (arith, h.answered.cpus, c.loop-cpu-test.true)) c.as_slice-in-loop-cpu.ensures c.index-as_slice-cpu-in-loop-cpu.is in
     ap (λ (rs : List Reply). length rs) replies ∙ (has_section b c.args.given.now.plan.now made cpu h c.loop-cpu-test.true).long ∙ sym (ap (λ (lines : List TraceStep). length lines) trace)
 
@@ -25,7 +26,7 @@ loop-cpu-preserved c =
     let plan = c.args.given.now.plan.now in
     let made = c.args.made.now in
     let h = c.requires.record in
-    let trace = item_is b.traces c.as_slice.result.now cpu c.index-as_slice-cpu.result [] (omega (arith, h.planned.is_valid.traces, c.loop-cpu-test.true)) c.as_slice.ensures c.index-as_slice-cpu.is in
+    let trace = item_is b.traces c.as_slice.result.now cpu c.index-as_slice-cpu.result [] (omega (arith, (planned_is_valid h.planned).traces, c.loop-cpu-test.true)) c.as_slice.ensures c.index-as_slice-cpu.is in
     let replies = item_is made.replies c.as_slice-in-loop-cpu.result.now cpu c.index-as_slice-cpu-in-loop-cpu.result [] (omega (arith, h.answered.cpus, c.loop-cpu-test.true)) c.as_slice-in-loop-cpu.ensures c.index-as_slice-cpu-in-loop-cpu.is in
     more_lines (cpu_lines b plan made.visits made.supply) cpu (c.args.out.now.items) (c.loop-cpu.out.items) (c.write_rounds.new.out.items) c.loop-cpu.invariant
     (section_written b plan made c.args.given.now.pages.now cpu c.index-as_slice-cpu.result c.index-as_slice-cpu-in-loop-cpu.result (c.loop-cpu.out.items) (c.extend_from_slice.new.self.items) (c.write_rounds.new.out.items) h c.loop-cpu-test.true

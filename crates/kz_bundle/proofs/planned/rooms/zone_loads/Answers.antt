@@ -1,8 +1,8 @@
 use Rattle.std.proofs.Common.{◌≡◌, length, ap, sym, ◌∙◌, arith}
-use Rattle.kz_plan.proofs.Fit.{plans_are_fit}
 use Rattle.kz_model.specs.Run.Journal.{trace_of}
 use Rattle.kz_bundle.specs.Counted.{counted_on, load_of}
 use Rattle.kz_bundle.proofs.InRange.{made_all, made_long, made_more, next_is, next_within}
+use Rattle.kz_bundle.proofs.Zoned.{planned_is_fit}
 use Rattle.kz_bundle.proofs.planned.rooms.zone_loads.Goals as goal
 
 pub overflow_cast-zone : goal.overflow_cast-zone
@@ -10,7 +10,7 @@ overflow_cast-zone c =
     let b = c.args.bundle.now in
     let plan = c.args.plan.now in
     let l = c.loop-lines in
-    omega (arith, next_within l.invariant c.in-Some.ensures.steps.0, made_long l.invariant, c.len-zone.ensures, (plans_are_fit b plan c.requires).few)
+    omega (arith, next_within l.invariant c.in-Some.ensures.steps.0, made_long l.invariant, c.len-zone.ensures, (planned_is_fit c.requires).few)
 
 pub load_of-requires-clause-zone : goal.load_of-requires-clause-zone
 load_of-requires-clause-zone c =

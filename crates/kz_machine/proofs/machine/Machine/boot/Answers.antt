@@ -13,20 +13,21 @@ use Rattle.kz_model.proofs.TraceRounds.{short_traces}
 use Rattle.kz_machine.proofs.Lines.{allocations_are, allocations_few, entries_are}
 use Rattle.kz_machine.proofs.Fit.{rooms_fit, rooms_cpus, frames_few}
 use Rattle.kz_machine.proofs.Opens.{opens_at}
+use Rattle.kz_bundle.proofs.Zoned.{planned_is_valid}
 use Rattle.kz_machine.proofs.machine.Machine.boot.Goals as goal
 
 pub frames_of-frames-requires-clause-few : goal.frames_of-frames-requires-clause-few
 frames_of-frames-requires-clause-few c =
     let b = c.args.bundle.now in
     let plan = c.args.plan.now in
-    let few = frames_few b plan c.requires.is_valid (c.plans_are_fit.ensures b plan c.requires) in
+    let few = frames_few b plan (planned_is_valid c.requires) (c.plans_are_fit.ensures b plan (planned_is_valid c.requires) c.requires.is_plan) in
     omega (arith, few, ap frames_in (c.deref-2.ensures.value ∙ c.in_ok-rooms.ensures))
 
 pub entries_of-entries-requires : goal.entries_of-entries-requires
 entries_of-entries-requires c =
     let b = c.args.bundle.now in
     let plan = c.args.plan.now in
-    let few = allocations_few b plan (length plan.zones) c.requires.is_valid in
+    let few = allocations_few b plan (length plan.zones) (planned_is_valid c.requires) in
     let is = ap most_entries (allocations_are b plan c.deref.result.now (c.deref.ensures.value ∙ c.in_ok-loads.ensures)) in
     let are = entries_are b plan in
     omega arith
@@ -35,7 +36,7 @@ pub cpus_of-requires-clause-fit : goal.cpus_of-requires-clause-fit
 cpus_of-requires-clause-fit c =
     let b = c.args.bundle.now in
     let plan = c.args.plan.now in
-    subst (λ (rooms : List Room). All IsFitRoom rooms) (sym (c.deref-3.ensures.value ∙ c.in_ok-rooms.ensures)) (rooms_fit b plan c.requires.is_valid (c.plans_are_fit.ensures b plan c.requires))
+    subst (λ (rooms : List Room). All IsFitRoom rooms) (sym (c.deref-3.ensures.value ∙ c.in_ok-rooms.ensures)) (rooms_fit b plan (planned_is_valid c.requires) (c.plans_are_fit.ensures b plan (planned_is_valid c.requires) c.requires.is_plan))
 
 pub cpus_of-requires-clause-cpus : goal.cpus_of-requires-clause-cpus
 cpus_of-requires-clause-cpus c =
@@ -47,10 +48,10 @@ pub books_of-requires : goal.books_of-requires
 books_of-requires c =
     let b = c.args.bundle.now in
     let plan = c.args.plan.now in
-    subst (λ (rooms : List Room). All IsFitRoom rooms) (sym (c.deref-4.ensures.value ∙ c.in_ok-rooms.ensures)) (rooms_fit b plan c.requires.is_valid (c.plans_are_fit.ensures b plan c.requires))
+    subst (λ (rooms : List Room). All IsFitRoom rooms) (sym (c.deref-4.ensures.value ∙ c.in_ok-rooms.ensures)) (rooms_fit b plan (planned_is_valid c.requires) (c.plans_are_fit.ensures b plan (planned_is_valid c.requires) c.requires.is_plan))
 
 pub replies_of-requires : goal.replies_of-requires
-replies_of-requires c = subst (λ (traces : List (List TraceStep)). All (λ trace. length trace ≤ 1000000) traces) (sym c.as_slice.ensures) (short_traces c.args.bundle.now c.requires.is_valid)
+replies_of-requires c = subst (λ (traces : List (List TraceStep)). All (λ trace. length trace ≤ 1000000) traces) (sym c.as_slice.ensures) (short_traces c.args.bundle.now (planned_is_valid c.requires))
 
 pub returns : goal.returns
 returns c =
@@ -58,7 +59,7 @@ returns c =
     let plan = c.args.plan.now in
     let entries = c.entries_of-entries.ensures ∙ ap most_entries (allocations_are b plan c.deref.result.now (c.deref.ensures.value ∙ c.in_ok-loads.ensures)) in
     let made = c.frames_of-frames.ensures ∙ ap (frames_needed b.pages) (c.deref-2.ensures.value ∙ c.in_ok-rooms.ensures) in
-    opens_at b plan _ c.requires (c.plans_are_fit.ensures b plan c.requires)
+    opens_at b plan _ c.requires (c.plans_are_fit.ensures b plan (planned_is_valid c.requires) c.requires.is_plan)
     (c.in_ok-cpus_of.ensures ∙ ap₂ (λ (l : List Room) names. map (λ cpu. opened_cpu cpu l names) (range_with_len 0 b.cpus)) (c.deref-3.ensures.value ∙ c.in_ok-rooms.ensures) c.len-names.ensures)
     (subst (λ (l : List Room). AreOpened l c.in_ok-books_of.field-0.items) (c.deref-4.ensures.value ∙ c.in_ok-rooms.ensures) c.in_ok-books_of.ensures)
     c.in_ok-rooms.ensures
