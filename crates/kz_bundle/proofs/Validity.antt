@@ -16,7 +16,6 @@ use Rattle.kz_model.specs.Grammar.Form.{StepLine, Section, Draft, empty_draft}
 use Rattle.kz_model.specs.Types.Layouts.{layouts_of}
 use Rattle.kz_model.specs.Types.Plan.{classes_in_use}
 use Rattle.kz_model.specs.Grammar.Stages.{else_fault, fault_if, Row, sections_of, step_lines, rows_of, type_names, cause_of, budget_fault, fault_of_layouts, types_fault, names_fault, rounds_of, order_fault, rounds_fault, later_fault, place_of, act_of, step_of, row_names, bundle_of}
-use Rattle.kz_model.specs.Grammar.Stages.{read}
 use Rattle.kz_model.specs.declared.bundle.Bundle.{Bundle}
 use Rattle.kz_model.specs.Grammar.Spelling.{IsDeclared, IsSpelled, Spells, bundle_text}
 use Rattle.kz_model.specs.Store.Traces.{AreNumbered}
@@ -182,11 +181,9 @@ reading_is_valid bytes b e =
 
 -- ---- what a text spells
 
--- a bundle that is read is one that its own text spells
-pub reading_is_spelled : (bytes : List ℕ) (b : Bundle) → read bytes ≡ Ok b → IsSpelled b
-reading_is_spelled bytes b e =
-    let spells = (spelling_is_reading bytes b).0 e in
-    subst (λ text. Spells text b) (one_text bytes b spells) spells
+-- a bundle that bytes spell is one that its own text spells
+pub own_text_spells : (bytes : List ℕ) (b : Bundle) → Spells bytes b → IsSpelled b
+own_text_spells bytes b spells = subst (λ text. Spells text b) (one_text bytes b spells) spells
 
 -- and such a bundle is valid
 pub spelled_is_valid : (b : Bundle) → IsSpelled b → IsValid b

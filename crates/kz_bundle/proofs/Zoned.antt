@@ -1,6 +1,8 @@
 -- A planned bundle is valid, its plan is fit, and its lines are addressed to the plan's zones.
-use Rattle.std.proofs.Common.{◌≡◌, ℕ, ◌<◌, length, slice_index_or, [], sym, subst, arith}
+use Rattle.std.proofs.Common.{◌≡◌, ℕ, ◌<◌, List, length, slice_index_or, [], ap, sym, ◌∙◌, subst, arith}
+use Rattle.std.proofs.lemmas.List.{get_or_default}
 use Rattle.kz_model.specs.declared.bundle.Bundle.{Bundle}
+use Rattle.kz_model.specs.declared.bundle.TraceStep.{TraceStep}
 use Rattle.kz_model.specs.declared.record.Plan.{Plan}
 use Rattle.kz_model.specs.declared.step.Step.{Step}
 use Rattle.kz_model.specs.Run.Journal.{addressed, trace_of}
@@ -28,3 +30,8 @@ pub zone_there : (b : Bundle) (plan : Plan) (cpu at : ℕ) (there : ℕ × Step)
     there.0 < length plan.zones
 zone_there b plan cpu at there is inside found =
     subst (λ (there : ℕ × Step). there.0 < length plan.zones) (sym found) (lines_within b plan (planned_is_valid is) (planned_is_fit is).zones cpu at no_step inside)
+
+-- what is found among a bundle's traces at a CPU's place is the CPU's trace
+pub found_trace : (b : Bundle) (cpu : ℕ) (traces : List (List TraceStep)) (found : List TraceStep) → IsValid b → cpu < b.cpus → found ≡ slice_index_or traces cpu found → traces ≡ b.traces → found ≡ trace_of b cpu
+found_trace b cpu traces found valid low is are =
+    is ∙ ap (λ (traces : List (List TraceStep)). slice_index_or traces cpu found) are ∙ get_or_default b.traces cpu found [] (omega (arith, valid.traces, low))

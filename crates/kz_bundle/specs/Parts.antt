@@ -1,5 +1,5 @@
 -- What the parts of a text stand for.
-use Rattle.std.specs.Prelude.{◌≡◌, ℕ, ◌-◌, ◌<◌, ◌≤◌, List, [], length, map, take, Option, None, Some, sum_by, All, IsTrue, slice_index_or}
+use Rattle.std.specs.Prelude.{◌≡◌, ℕ, ◌-◌, ◌<◌, ◌≤◌, List, length, map, take, Option, None, Some, sum_by, All, IsTrue, slice_index_or}
 use Rattle.kz_model.specs.declared.bundle.OrderLine.{OrderLine}
 use Rattle.kz_model.specs.declared.bundle.OrderLine.TheVariants as turn
 use Rattle.kz_model.specs.declared.bundle.TraceStep.{TraceStep}

@@ -18,6 +18,7 @@ use Rattle.kz_model.specs.Run.Recorded.{cpu_answered, cpu_replies, IsOfOrder}
 use Rattle.kz_model.specs.Text.Report.{Answered, answered_after, answered_lines}
 use Rattle.kz_model.specs.Grammar.Valid.{IsValid}
 use Rattle.kz_model.proofs.TraceRounds.{trace_by_rounds}
+use Rattle.kz_bundle.proofs.Zoned.{planned_is_valid}
 
 answered-length : (b : Bundle) (plan : Plan) (journals : List (List Visit)) (log : List SupplyEntry) (cpu round : ℕ) (earlier lines : List TraceStep) →
     length (answered_after b plan journals log cpu round earlier lines) ≡ length lines
@@ -49,6 +50,6 @@ pub few_replies : (b : Bundle) (plan : Plan) (made : Record) → IsPlanned b pla
 few_replies b plan made h of_order =
     let all : length (flat_map (λ (replies : List Reply). replies) made.replies) ≡ sum_by length made.replies = length-flat_map (λ (replies : List Reply). replies) made.replies in
     let same : sum_by length made.replies ≡ sum_by length b.traces =
-    same-sum made.replies b.traces (of_order.answered.cpus ∙ sym h.is_valid.traces) (λ cpu inside.
-    ap (λ (replies : List Reply). length replies) (of_order.answered.replies cpu (omega (arith, of_order.answered.cpus, inside))) ∙ replies-length b plan made.visits made.supply cpu h.is_valid) in
-    omega (arith, all, same, h.is_valid.few_steps)
+    same-sum made.replies b.traces (of_order.answered.cpus ∙ sym (planned_is_valid h).traces) (λ cpu inside.
+    ap (λ (replies : List Reply). length replies) (of_order.answered.replies cpu (omega (arith, of_order.answered.cpus, inside))) ∙ replies-length b plan made.visits made.supply cpu (planned_is_valid h)) in
+    omega (arith, all, same, (planned_is_valid h).few_steps)

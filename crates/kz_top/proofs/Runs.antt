@@ -19,9 +19,8 @@ use Rattle.kz_model.specs.Text.Summary.{replies_of_run, summary_text}
 use Rattle.kz_model.specs.Grammar.Valid.{layouts_in, plan_in}
 use Rattle.kz_model.specs.Text.Report.{replayed_text}
 use Rattle.kz_laws.proofs.Isolated.{runs_are_isolated}
-use Rattle.kz_bundle.proofs.Validity.{reading_is_valid}
-use Rattle.kz_bundle.proofs.Walking.{spelling_is_reading}
-use Rattle.kz_plan.proofs.Fit.{plans_are_fit}
+use Rattle.kz_bundle.proofs.Validity.{own_text_spells}
+use Rattle.kz_bundle.proofs.Zoned.{planned_is_fit, planned_is_valid}
 use Rattle.kz_machine.proofs.Apart.{run_of_order}
 use Rattle.kz_top.specs.Call.{IsKeptApart}
 
@@ -30,9 +29,9 @@ use Rattle.kz_top.specs.Call.{IsKeptApart}
 -- the run of the order of a bundle that bytes spell keeps its zones apart
 pub kept_apart : (bytes : List ℕ) (b : Bundle) → Spells bytes b → IsKeptApart bytes
 kept_apart bytes b spells =
-    let planned : IsPlanned b (plan_in b) = record { is_valid = reading_is_valid bytes b ((spelling_is_reading bytes b).1 spells); is_plan = refl } in
+    let planned : IsPlanned b (plan_in b) = record { spelled = own_text_spells bytes b spells; is_plan = refl } in
     let run = order_run b (plan_in b) in
-    (b, spells, runs_are_isolated b (plan_in b) run.journals run.log planned.is_valid (plans_are_fit b (plan_in b) planned).rows (run_of_order b (plan_in b) planned))
+    (b, spells, runs_are_isolated b (plan_in b) run.journals run.log (planned_is_valid planned) (planned_is_fit planned).rows (run_of_order b (plan_in b) planned))
 
 -- ---- the replies
 

@@ -2,7 +2,8 @@
 ghost use Rattle.std.specs.Prelude.{◌≡◌, ◌≤◌, All, length, vec_len, IfOk, MatchResult};
 ghost use Rattle.kz_model.specs.Types.Planned.{IsPlanned};
 ghost use Rattle.kz_model.specs.Text.Summary.{summary_text as told, replies_of_run};
-ghost use Rattle.kz_model.specs.Grammar.Valid.{IsValid, layouts_in, plan_in};
+ghost use Rattle.kz_model.specs.Grammar.Spelling.{IsSpelled};
+ghost use Rattle.kz_model.specs.Grammar.Valid.{layouts_in, plan_in};
 ghost use Rattle.kz_model.specs.Text.Report.{replayed_text};
 ghost use Rattle.kz_top.specs.Call.{IsMadeFor, MakesOf, Refuses, text_for};
 
@@ -17,7 +18,7 @@ use std::alloc::{AllocError, Global};
 
 /// The plan of a bundle, by the layouts of its types.
 fn plan_of(alloc: Global, bundle: &Bundle, layouts: &[Layout]) -> Result<Plan, AllocError>
-    requires valid { IsValid bundle.now }
+    requires spelled { IsSpelled bundle.now }
     requires layouts { layouts.now ≡ layouts_in bundle.now }
     requires few { length layouts.now ≤ 1024 }
     requires sizes { All (λ layout. layout.size ≤ 8192) layouts.now }
@@ -70,7 +71,7 @@ fn text_of(
     layouts: &[Layout],
 ) -> Result<Vec<u8>, AllocError>
     requires made { IsMadeFor command bytes.items }
-    requires valid { IsValid bundle.now }
+    requires spelled { IsSpelled bundle.now }
     requires layouts { layouts.now ≡ layouts_in bundle.now }
     requires few { length layouts.now ≤ 1024 }
     requires sizes { All (λ layout. layout.size ≤ 8192) layouts.now }

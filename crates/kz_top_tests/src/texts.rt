@@ -1,7 +1,8 @@
 //! The texts of a bundle, without layouts that are at hand.
 ghost use Rattle.std.specs.Prelude.{◌≡◌, ◌≤◌, All, length, IfOk};
 ghost use Rattle.kz_model.specs.Types.Planned.{IsPlanned};
-ghost use Rattle.kz_model.specs.Grammar.Valid.{IsValid, layouts_in, plan_in};
+ghost use Rattle.kz_model.specs.Grammar.Spelling.{IsSpelled};
+ghost use Rattle.kz_model.specs.Grammar.Valid.{layouts_in, plan_in};
 
 use kz_bundle::read_with_layouts;
 use kz_machine::replay;
@@ -27,7 +28,7 @@ const REPORT: &[u8] = b"report 1\n\
 
 /// The plan of a bundle, by the layouts of its types.
 fn plan_of(alloc: Global, bundle: &Bundle, layouts: &[Layout]) -> Result<Plan, Fail>
-    requires valid { IsValid bundle.now }
+    requires spelled { IsSpelled bundle.now }
     requires layouts { layouts.now ≡ layouts_in bundle.now }
     requires few { length layouts.now ≤ 1024 }
     requires sizes { All (λ layout. layout.size ≤ 8192) layouts.now }

@@ -1,4 +1,4 @@
-use Rattle.std.proofs.Common.{◌≡◌, List, ℕ, ◌++◌, codes, subst, sym}
+use Rattle.std.proofs.Common.{List, ℕ, subst, sym}
 use Rattle.kz_model.specs.Grammar.Spelling.{Spells}
 use Rattle.kz_bundle.proofs.Printed.{bundle_printed}
 use Rattle.kz_bundle.proofs.Validity.{spelled_is_valid}

@@ -7,7 +7,7 @@ use Rattle.kz_model.specs.Grammar.Valid.{IsValid, layouts_in, ok_or_none}
 use Rattle.kz_bundle.specs.Parts.{draft_of}
 use Rattle.kz_bundle.proofs.Columns.{if_ok_both}
 use Rattle.kz_bundle.proofs.Walking.{spelling_is_reading}
-use Rattle.kz_bundle.proofs.Validity.{reading_is_spelled, reading_is_valid}
+use Rattle.kz_bundle.proofs.Validity.{own_text_spells, reading_is_valid}
 use Rattle.kz_bundle.proofs.read.read_with_layouts.Goals as goal
 
 pub returns-clause-spells : goal.returns-clause-spells
@@ -21,7 +21,7 @@ pub returns-clause-spelled : goal.returns-clause-spelled
 returns-clause-spelled c =
     let d = draft_of c.in_ok-parts.parts in
     if_ok_both c.judge.result (λ _. later_fault d ≡ None) (λ found. found.0 ≡ bundle_of d) (λ found. IsSpelled found.0)
-    (λ found none is. reading_is_spelled c.args.bytes.now found.0 (ap after_form c.in_ok-parts.ensures.form ∙ ap (unless d) none ∙ ap Ok (sym is)))
+    (λ found none is. own_text_spells c.args.bytes.now found.0 ((spelling_is_reading c.args.bytes.now found.0).0 (ap after_form c.in_ok-parts.ensures.form ∙ ap (unless d) none ∙ ap Ok (sym is))))
     c.judge.ensures.faultless c.judge.ensures.bundle
 
 pub returns-clause-valid : goal.returns-clause-valid

@@ -14,6 +14,9 @@ limited-requires-clause-pages c =
     let fit = params_fit b plan (length l.yielded) (planned_is_valid c.requires.planned) (c.plans_are_fit.ensures b plan (planned_is_valid c.requires.planned) c.requires.planned.is_plan) (next_within l.invariant c.in-Some.ensures.steps.0) in
     subst (λ (load : ZoneLoad). 0 < load.room.params.pages) (sym (next_is l.invariant c.in-Some.ensures.steps.0)) fit.shape.some_pages
 
+pub limited-requires-clause-frames : goal.limited-requires-clause-frames
+limited-requires-clause-frames c = (planned_is_valid c.requires.planned).frames
+
 pub loop-load-preserved : goal.loop-load-preserved
 loop-load-preserved c =
     let b = c.args.bundle.now in

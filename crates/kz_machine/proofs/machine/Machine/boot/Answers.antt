@@ -23,6 +23,9 @@ frames_of-frames-requires-clause-few c =
     let few = frames_few b plan (planned_is_valid c.requires) (c.plans_are_fit.ensures b plan (planned_is_valid c.requires) c.requires.is_plan) in
     omega (arith, few, ap frames_in (c.deref-2.ensures.value ∙ c.in_ok-rooms.ensures))
 
+pub frames_of-frames-requires-clause-pages : goal.frames_of-frames-requires-clause-pages
+frames_of-frames-requires-clause-pages c = (planned_is_valid c.requires).pages
+
 pub entries_of-entries-requires : goal.entries_of-entries-requires
 entries_of-entries-requires c =
     let b = c.args.bundle.now in
@@ -43,6 +46,9 @@ cpus_of-requires-clause-cpus c =
     let b = c.args.bundle.now in
     let plan = c.args.plan.now in
     subst (λ (rooms : List Room). All (λ room. room.params.cpus ≡ b.cpus) rooms) (sym (c.deref-3.ensures.value ∙ c.in_ok-rooms.ensures)) (rooms_cpus b plan)
+
+pub cpus_of-requires-clause-few : goal.cpus_of-requires-clause-few
+cpus_of-requires-clause-few c = let pages = (planned_is_valid c.requires).pages in grind arith
 
 pub books_of-requires : goal.books_of-requires
 books_of-requires c =
