@@ -14,5 +14,6 @@ pub mod Fit
 pub mod Shares
 pub mod SharesGrow
 pub mod SharesExist
+pub mod Sizes
 pub mod TypeZones
 pub mod TypeLaws

@@ -1,7 +1,8 @@
 -- The laws on the zones of a bundle's types.
-use Rattle.std.proofs.Common.{◌≡◌, ℕ, ◌<◌, [], inl, inr, is_none, length, map, slice_index, refl, ap, sym, ◌∙◌, subst, arith}
+use Rattle.std.proofs.Common.{◌≡◌, ℕ, ◌<◌, ◌≤◌, All, None, Some, unwrap_or, [], inl, inr, is_none, length, map, slice_index, refl, ap, sym, ◌∙◌, subst, arith}
 use Rattle.std.proofs.Math.ListN.{get_or}
 use Rattle.std.proofs.lemmas.Bool.{cases_lt}
+use Rattle.std.proofs.lemmas.Result.{IfOk-at_ok}
 use Rattle.std.proofs.lemmas.List.{get_or-map}
 use Rattle.std.proofs.lemmas.List.Kept.{AllPairs-from_increasing}
 use Rattle.kz_model.specs.declared.bundle.Bundle.{Bundle}
@@ -10,13 +11,15 @@ use Rattle.kz_model.specs.declared.record.Plan.{Plan}
 use Rattle.kz_model.specs.Grammar.Valid.{layouts_in, plan_in, IsValid}
 use Rattle.kz_model.specs.Run.Journal.{zone_of_type, zone_row}
 use Rattle.kz_model.specs.Text.Report.{no_layout}
-use Rattle.kz_model.specs.Types.Class.{kalloc_sizes}
+use Rattle.kz_model.specs.Types.Class.{class_of, kalloc_sizes}
 use Rattle.kz_model.specs.Types.Plan.{class_at, data_classes, deals_of, general_count, shape_at, zone_among}
 use Rattle.kz_model.specs.Types.Planned.{IsPlanned}
-use Rattle.kz_class.proofs.Classes.{table_from_test}
-use Rattle.kz_plan.specs.ZoneLaws.{layout_at, row_of_type, IsZoneFor, EqualSignaturesShare, DataOfOneClassShares, SharersHaveOneClass, SharersAreOfOneKind}
+use Rattle.kz_class.specs.ClassLaws.{IsLeastNotBelow}
+use Rattle.kz_class.proofs.Classes.{class_is_least, none_above_last, table_from_test}
+use Rattle.kz_plan.specs.ZoneLaws.{layout_at, row_of_type, IsZoneFor, ClassesAreLeast, ElementsHoldTypes, EqualSignaturesShare, DataOfOneClassShares, SharersHaveOneClass, SharersAreOfOneKind}
 use Rattle.kz_plan.proofs.Fit.{layouts-many, valid-there, valid-zones}
 use Rattle.kz_plan.proofs.Plans.{class_at-below}
+use Rattle.kz_plan.proofs.Sizes.{layouts-small}
 use Rattle.kz_plan.proofs.TypeZones.{data_zone-same, zone-for, zone-same}
 
 -- ---- classes
@@ -35,10 +38,24 @@ class-by_size one other one_below other_below same =
     rising : (i j : ℕ) (d : ℕ) → i < j → j < 32 → get_or kalloc_sizes i d < get_or kalloc_sizes j d
     rising = AllPairs-from_increasing kalloc_sizes (table_from_test kalloc_sizes refl).rising
 
--- and two chunks
-class-by_shape : (one other : ℕ) → one < 32 → other < 32 → shape_at one ≡ shape_at other → one ≡ other
+-- a class has elements of its size
+shape-element : (class : ℕ) → (shape_at class).element ≡ slice_index kalloc_sizes class
 unfolding shape_at
-class-by_shape one other one_below other_below same = class-by_size one other one_below other_below (ap (λ shape. shape.element) same)
+shape-element class = refl
+
+-- the class of a layout that isn't too great is the least that isn't below it
+class-least : (layout : Layout) → layout.size ≤ 8192 → IsLeastNotBelow kalloc_sizes layout.size (class_at layout)
+unfolding class_at
+class-least layout small =
+    elim (class_of kalloc_sizes layout.size) as (λ o. class_of kalloc_sizes layout.size ≡ o → IsLeastNotBelow kalloc_sizes layout.size (unwrap_or o 0)) [
+      | None ↦ λ e. absurd (omega (arith, (none_above_last kalloc_sizes layout.size (omega arith) (table_from_test kalloc_sizes refl).rising).0 e))
+      | Some class ↦ λ e. (class_is_least kalloc_sizes layout.size class).0 e
+    ] refl
+
+-- two classes have two chunks
+class-by_shape : (one other : ℕ) → one < 32 → other < 32 → shape_at one ≡ shape_at other → one ≡ other
+class-by_shape one other one_below other_below same =
+    class-by_size one other one_below other_below (sym (shape-element one) ∙ ap (λ shape. shape.element) same ∙ shape-element other)
 
 -- ---- the zone of a type
 
@@ -57,6 +74,18 @@ module _ (b : Bundle) (is : IsValid b) where
 
 pub zone-of-type : (b : Bundle) (plan : Plan) (of : ℕ) → IsPlanned b plan → of < length b.types → IsZoneFor (layout_at b of) (row_of_type plan of)
 zone-of-type b plan of is inside = subst (λ (plan : Plan). IsZoneFor (layout_at b of) (row_of_type plan of)) (sym is.is_plan) (row-at b is.is_valid of inside)
+
+-- ---- the class of a type
+
+pub classes_are_least : ClassesAreLeast
+classes_are_least b plan of is inside =
+    class-least (layout_at b of) (IfOk-at_ok (All (λ layout. layout.size ≤ 8192)) is.is_valid.laid_out (layouts-small b.types) of no_layout (omega (arith, layouts-many b is.is_valid)))
+
+pub elements_hold_types : ElementsHoldTypes
+elements_hold_types b plan of is inside =
+    let element : (row_of_type plan of).shape.element ≡ slice_index kalloc_sizes (class_at (layout_at b of)) =
+    ap (λ shape. shape.element) (zone-of-type b plan of is inside).shape ∙ shape-element (class_at (layout_at b of)) in
+    omega (arith, element, (classes_are_least b plan of is inside).not_below)
 
 -- ---- types that share a zone
 

@@ -1,5 +1,5 @@
 -- Laws on the zones of a bundle's types.
-use Rattle.std.specs.Prelude.{◌≡◌, ℕ, ◌<◌, ◌==◌, true, is_none, length, slice_index_or}
+use Rattle.std.specs.Prelude.{◌≡◌, ℕ, ◌<◌, ◌≤◌, ◌==◌, true, is_none, length, slice_index_or}
 use Rattle.kz_model.specs.declared.bundle.Bundle.{Bundle}
 use Rattle.kz_model.specs.declared.record.Layout.{Layout}
 use Rattle.kz_model.specs.declared.record.Plan.{Plan}
@@ -7,9 +7,11 @@ use Rattle.kz_model.specs.declared.record.ZoneRow.{ZoneRow}
 use Rattle.kz_model.specs.Grammar.Valid.{layouts_in}
 use Rattle.kz_model.specs.Run.Journal.{zone_of_type, zone_row}
 use Rattle.kz_model.specs.Text.Report.{no_layout}
+use Rattle.kz_model.specs.Types.Class.{kalloc_sizes}
 use Rattle.kz_model.specs.Types.Cover.{is_data_only}
 use Rattle.kz_model.specs.Types.Plan.{class_at, shape_at}
 use Rattle.kz_model.specs.Types.Planned.{IsPlanned}
+use Rattle.kz_class.specs.ClassLaws.{IsLeastNotBelow}
 
 -- the layout of a type
 abbrev pub layout_at : Bundle → ℕ → Layout
@@ -30,6 +32,18 @@ abbrev pub ZonesHaveTheClass : Type 0
 ZonesHaveTheClass =
     (b : Bundle) (plan : Plan) (of : ℕ) → IsPlanned b plan → of < length b.types →
     (row_of_type plan of).shape ≡ shape_at (class_at (layout_at b of))
+
+-- that class is the least of the allocator's that isn't below the type's size
+abbrev pub ClassesAreLeast : Type 0
+ClassesAreLeast =
+    (b : Bundle) (plan : Plan) (of : ℕ) → IsPlanned b plan → of < length b.types →
+    IsLeastNotBelow kalloc_sizes (layout_at b of).size (class_at (layout_at b of))
+
+-- an element of a type's zone is at least as long as the type
+abbrev pub ElementsHoldTypes : Type 0
+ElementsHoldTypes =
+    (b : Bundle) (plan : Plan) (of : ℕ) → IsPlanned b plan → of < length b.types →
+    (layout_at b of).size ≤ (row_of_type plan of).shape.element
 
 -- a type's zone is a data zone, which is no bucket of its class, exactly where the type is data-only
 abbrev pub DataZonesAreForData : Type 0

@@ -2,7 +2,7 @@
 ghost use Rattle.kz_model.specs.Types.Planned.{PlansAreFit};
 ghost use Rattle.kz_plan.specs.ShareLaws.{SharesAreWithin, SharesSpend, SharesAreFairest, OneForEach, OneMoreForNext, RestIsUnused};
 ghost use Rattle.kz_plan.specs.Laws.{SignaturesRise, SignaturesAreThoseOfTypes, ShufflesKeepAll};
-ghost use Rattle.kz_plan.specs.ZoneLaws.{ZonesHaveTheClass, DataZonesAreForData, DataHasItsSubmap, EqualSignaturesShare, DataOfOneClassShares, SharersHaveOneClass, SharersAreOfOneKind};
+ghost use Rattle.kz_plan.specs.ZoneLaws.{ZonesHaveTheClass, ClassesAreLeast, ElementsHoldTypes, DataZonesAreForData, DataHasItsSubmap, EqualSignaturesShare, DataOfOneClassShares, SharersHaveOneClass, SharersAreOfOneKind};
 
 /// A class deals the signatures of its types that aren't data-only, each once.
 pub fn signatures_are_dealt_once()
@@ -16,10 +16,12 @@ pub fn plans_are_fit()
     ensures { PlansAreFit }
 {}
 
-/// A type's zone has the chunk of the type's class. It is a data zone, in the submap for data, exactly where the type is
-/// data-only.
+/// A type's zone has the chunk of the least class whose elements hold the type. It is a data zone, in the submap for
+/// data, exactly where the type is data-only.
 pub fn types_have_zones_of_their_class()
     ensures class { ZonesHaveTheClass }
+    ensures least { ClassesAreLeast }
+    ensures holds { ElementsHoldTypes }
     ensures kind { DataZonesAreForData }
     ensures submap { DataHasItsSubmap }
 {}
