@@ -16,7 +16,7 @@ use Rattle.kz_laws.proofs.Undelayed.{mine_or_other}
 use Rattle.kz_book.specs.Book.{Book, History}
 use Rattle.kz_book.specs.Visits.{has_name, own_now}
 use Rattle.kz_cpu.specs.Cpu.{Cpu, Cache, Has, IsElsewhere, cache_at, recent_at}
-use Rattle.kz_cpu.specs.Caught.{IsCaughtUp}
+use Rattle.kz_cpu.specs.Caught.{IsCaughtUp, IsCaughtUpWith}
 use Rattle.kz_machine.specs.Lookups.{no_cpu, cpu_at}
 use Rattle.kz_machine.specs.Stands.{IsCpuAt, IsZoneAt}
 
@@ -62,17 +62,17 @@ cpu_keeps b plan cpu zone step c d is elsewhere named =
       tags = λ name lt. elsewhere.tags name (zone_of_name b plan name) (λ has same. ap (zone_of_name b plan) same ∙ named has) (is.tags name lt);
     }
 
--- it has caught up as before, where a history ends with the same for it
-pub caught_same : (c d : Cpu) (zone : ℕ) (j k : History) → (cache_at d zone) ≡ (cache_at c zone) → d.cpu ≡ c.cpu → ((own : CpuPart) → Has c zone own → Has d zone own) → cpu_part k.made.end c.cpu ≡ cpu_part j.made.end c.cpu →
-    IsCaughtUp c zone j → IsCaughtUp d zone k
-caught_same c d zone j k cache number has own is =
-    let first = cpu_part j.made.end c.cpu in
-    let there : cpu_part k.made.end d.cpu ≡ first = ap (cpu_part k.made.end) number ∙ own in
+-- it has caught up as before, where it has what it had
+pub caught_same : (c d : Cpu) (zone : ℕ) (own : CpuPart) → cache_at d zone ≡ cache_at c zone → ((own : CpuPart) → Has c zone own → Has d zone own) → IsCaughtUp c zone own → IsCaughtUp d zone own
+caught_same c d zone own cache has is =
     record {
-      none = subst (λ (own : CpuPart). NeedNone (cache_at d zone).params own (recent_at d zone)) (sym there) (subst (λ (k : Cache). NeedNone k.params first k.recent) (sym cache) is.none);
-      has = subst (λ (own : CpuPart). Has d zone (part_after (cache_at d zone).params own (recent_at d zone))) (sym there)
-          (subst (λ (k : Cache). Has d zone (part_after k.params first k.recent)) (sym cache) (has (own_now (cache_at c zone).params j c.cpu (recent_at c zone)) is.has));
+      none = subst (λ (k : Cache). NeedNone k.params own k.recent) (sym cache) is.none;
+      has = subst (λ (k : Cache). Has d zone (part_after k.params own k.recent)) (sym cache) (has (own_now (cache_at c zone).params own (recent_at c zone)) is.has);
     }
+
+-- it has caught up with a history that ends with the same for it
+pub caught_alike : (c : Cpu) (zone : ℕ) (j k : History) → cpu_part k.made.end c.cpu ≡ cpu_part j.made.end c.cpu → IsCaughtUpWith c zone j → IsCaughtUpWith c zone k
+caught_alike c zone j k same is = subst (λ (own : CpuPart). IsCaughtUp c zone own) (sym same) is
 
 -- ---- all CPUs
 
@@ -109,6 +109,8 @@ zone_elsewhere b plan cpus now log later zone other step book z ne answers elsew
       answers = is.answers ∙ sym answers;
       delayed = delayed_same (params_of b plan other) z.state j.made.end (λ cpu. recent_at (cpu_at cpus cpu) other) (λ cpu. recent_at (cpu_at now cpu) other) (λ cpu lt. recent cpu) is.delayed;
       caught = λ cpu lt.
-          let e = elsewhere cpu in caught_same (cpu_at cpus cpu) (cpu_at now cpu) other j j (e.others other ne) e.cpu (λ own has. e.has other own ne has) refl (is.caught cpu lt);
+          let e = elsewhere cpu in
+          subst (λ n. IsCaughtUp (cpu_at now cpu) other (cpu_part j.made.end n)) (sym e.cpu)
+          (caught_same (cpu_at cpus cpu) (cpu_at now cpu) other (cpu_part j.made.end (cpu_at cpus cpu).cpu) (e.others other ne) (λ own has. e.has other own ne has) (is.caught cpu lt));
       late = λ cpu lt. is.late cpu lt ∙ ap (λ (steps : List Step). length steps) (sym (recent cpu));
     }

@@ -13,7 +13,7 @@ use Rattle.kz_supply.specs.Exchange.{Exchange}
 use Rattle.kz_supply.specs.Thin.{ThinSupply}
 use Rattle.kz_book.specs.Book.{Book, History, KeepsHistory}
 use Rattle.kz_cpu.specs.Cpu.{Cpu}
-use Rattle.kz_cpu.specs.Caught.{IsCaughtUp}
+use Rattle.kz_cpu.specs.Caught.{IsCaughtUpWith}
 use Rattle.kz_model.specs.Store.Replies.{RepliesSoFar}
 use Rattle.kz_machine.specs.RecordRoom.{no_replies}
 use Rattle.kz_machine.specs.Lookups.{no_cpu, no_book, cpu_at, book_at}
@@ -56,7 +56,7 @@ module _ (m : Machine) (cpu zone : ℕ) (step : Step) (b : Bundle) (plan : Plan)
         (subst (λ (c : Cpu). IsReady (params_of b plan zone) (parties c (book_at m.books zone) m.supply) step) cpu_is (ready_here b plan m s cpu zone step at turn)))
 
     module _ (d : Cpu) (shelf : Book) (supply : ThinSupply) (reply : Reply)
-        (does : (j : History) → KeepsHistory book j → IsCaughtUp c room.params.zone j → (after : History) × (exchanges : List Exchange) × IsStepDone room.params m.round (parties c book m.supply) (parties d shelf supply) step reply j after exchanges) where
+        (does : (j : History) → KeepsHistory book j → IsCaughtUpWith c room.params.zone j → (after : History) × (exchanges : List Exchange) × IsStepDone room.params m.round (parties c book m.supply) (parties d shelf supply) step reply j after exchanges) where
       abbrev there-in : zone < length plan.zones
       there-in = in_zones b plan m s cpu zone step at turn
 
@@ -72,7 +72,7 @@ module _ (m : Machine) (cpu zone : ℕ) (step : Step) (b : Bundle) (plan : Plan)
           (subst (λ (book : Book). Done (params_of b plan zone) book c) (sym book_is)
           (subst (λ (p : ZoneParams). Done p book c) (sym params_are)
           (does j (subst (λ (book : Book). KeepsHistory book j) book_is (at.zones zone there-in).keeps)
-          (subst (λ (p : ZoneParams). IsCaughtUp c p.zone j) params_are (subst (λ (c : Cpu). IsCaughtUp c zone j) cpu_is ((at.zones zone there-in).caught cpu (is_cpu b plan m s cpu zone step at turn)))))))
+          (subst (λ (p : ZoneParams). IsCaughtUpWith c p.zone j) params_are (subst (λ (c : Cpu). IsCaughtUpWith c zone j) cpu_is ((at.zones zone there-in).caught cpu (is_cpu b plan m s cpu zone step at turn)))))))
 
       module _ (said told : RepliesSoFar) (is_said : said ≡ slice_index_or m.replies cpu said) (items : told.items ≡ said.items ++ reply ∷ []) (more : said.room ≤ told.room) where
         said_is : replies_at m.replies cpu ≡ said

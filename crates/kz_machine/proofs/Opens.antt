@@ -22,10 +22,10 @@ use Rattle.kz_laws.specs.Play.{ZonePlay, opening_zone_play, zone_play, no_play, 
 use Rattle.kz_model.specs.Zone.State.{CpuPart, ZoneState, no_cpu_part, cpu_part, opening}
 use Rattle.kz_laws.proofs.OrderRuns.{zeros}
 use Rattle.kz_book.specs.Book.{Book, History}
-use Rattle.kz_book.specs.Visits.{own_now}
+use Rattle.kz_book.specs.Visits.{own_in}
 use Rattle.kz_cpu.specs.declared.binding.Binding.{Binding}
 use Rattle.kz_cpu.specs.Cpu.{Cpu, Cache, Has, IsTagged, no_cache, cache_at, recent_at, bound_in, opened_cache, opened_cpu}
-use Rattle.kz_cpu.specs.Caught.{IsCaughtUp}
+use Rattle.kz_cpu.specs.Caught.{IsCaughtUpWith}
 use Rattle.kz_model.specs.Store.Replies.{RepliesSoFar}
 use Rattle.kz_machine.specs.RecordRoom.{no_replies, HasRecordRoom}
 use Rattle.kz_machine.specs.Lookups.{no_cpu, no_room, cpu_at, book_at}
@@ -121,12 +121,12 @@ module _ (b : Bundle) (plan : Plan) where
         within : (cpu : ℕ) → cpu < length j.made.end.own → cpu < b.cpus
         within cpu lt = subst (λ n. cpu < n) (ap (λ (state : ZoneState). length state.own) end_is ∙ length-replicate b.cpus no_cpu_part) lt
 
-    caught_opened : (cpu : ℕ) → IsCaughtUp (opened cpu) zone j
+    caught_opened : (cpu : ℕ) → IsCaughtUpWith (opened cpu) zone j
     caught_opened cpu =
         let cache = cache_is cpu zone there in
         let recent : recent_at (opened cpu) zone ≡ [] = ap (λ (c : Cache). c.recent) cache in
         let q = (cache_at (opened cpu) zone).params in
-        let now : own_now q j cpu (recent_at (opened cpu) zone) ≡ no_cpu_part = ap (λ (steps : List Step). part_after q (cpu_part j.made.end cpu) steps) recent ∙ own_is cpu in
+        let now : own_in q j cpu (recent_at (opened cpu) zone) ≡ no_cpu_part = ap (λ (steps : List Step). part_after q (cpu_part j.made.end cpu) steps) recent ∙ own_is cpu in
         record {
           none = subst (λ (steps : List Step). NeedNone q (cpu_part j.made.end cpu) steps) (sym recent) tt;
           has = subst (λ (own : CpuPart). Has (opened cpu) zone own) (sym now) (record {
@@ -146,7 +146,7 @@ module _ (b : Bundle) (plan : Plan) where
           keeps = is.keeps;
           answers = is.answers;
           delayed = delayed;
-          caught = λ cpu lt. subst (λ (c : Cpu). IsCaughtUp c zone j) (sym (cpu_is cpu lt)) (caught_opened cpu);
+          caught = λ cpu lt. subst (λ (c : Cpu). IsCaughtUpWith c zone j) (sym (cpu_is cpu lt)) (caught_opened cpu);
           late = λ cpu lt. zeros b.cpus cpu ∙ sym (ap (λ (steps : List Step). length steps) (none_recent cpu lt));
         }
 

@@ -24,13 +24,13 @@ use Rattle.kz_laws.proofs.PlayedAt.{lines_within}
 use Rattle.kz_model.proofs.TraceRounds.{range_push}
 use Rattle.kz_laws.proofs.Undelayed.{mine_or_other, caught_up}
 use Rattle.kz_book.specs.Book.{Book, History, KeepsHistory, HasRoom, params_of as book_params}
-use Rattle.kz_book.specs.Visits.{Settles, own_now, settled_of}
+use Rattle.kz_book.specs.Visits.{Settles, own_in, settled_of}
 use Rattle.kz_cpu.specs.Cpu.{Cpu, IsElsewhere, cache_at, recent_at}
-use Rattle.kz_cpu.specs.Caught.{IsCaughtUp}
+use Rattle.kz_cpu.specs.Caught.{IsCaughtUpWith}
 use Rattle.kz_machine.specs.Lookups.{no_cpu, no_book, cpu_at, book_at}
 use Rattle.kz_machine.specs.Settling.{settled_below, AreSettledBelow, AreSettled}
 use Rattle.kz_machine.specs.Stands.{IsCpuAt, IsZoneAt}
-use Rattle.kz_machine.proofs.Elsewhere.{elsewhere_refl, elsewhere_trans, cpu_keeps, caught_same, set_elsewhere, zone_elsewhere}
+use Rattle.kz_machine.proofs.Elsewhere.{elsewhere_refl, elsewhere_trans, cpu_keeps, caught_alike, set_elsewhere, zone_elsewhere}
 use Rattle.kz_machine.proofs.Fit.{steps_here}
 
 -- ---- counts and visits, CPU by CPU
@@ -77,13 +77,13 @@ pub record MaySettle (zone : ℕ) (c : Cpu) (book : Book) : Type 0 where
   pub same_params : book_params book ≡ (cache_at c zone).params
   pub history : History
   pub keeps : KeepsHistory book history
-  pub caught : IsCaughtUp c zone history
+  pub caught : IsCaughtUpWith c zone history
   pub room : HasRoom book c.cpu (length (recent_at c zone))
 
 -- A CPU has settled, or had nothing to settle.
 pub record HasTurned (p : ZoneParams) (zone n : ℕ) (c d : Cpu) (book shelf : Book) (visits : List Visit) (j next : History) : Type 0 where
   pub keeps : KeepsHistory shelf next
-  pub caught : IsCaughtUp d zone next
+  pub caught : IsCaughtUpWith d zone next
   pub answers : next.answers ≡ j.answers
   pub end : next.made.end ≡ with_cpu_part j.made.end n (part_after p (cpu_part j.made.end n) (recent_at c zone))
   pub recent : recent_at d zone ≡ []
@@ -114,8 +114,8 @@ module _ (b : Bundle) (plan : Plan) (log : List SupplyEntry) (round zone : ℕ) 
   each_here : IsCpuAt b plan n c
   each_here = subst (λ (c : Cpu). IsCpuAt b plan n c) same (at.each n lt)
 
-  caught_here : IsCaughtUp c zone j
-  caught_here = subst (λ (c : Cpu). IsCaughtUp c zone j) same (here.caught n lt)
+  caught_here : IsCaughtUpWith c zone j
+  caught_here = subst (λ (c : Cpu). IsCaughtUpWith c zone j) same (here.caught n lt)
 
   recent_same : recent_at (cpu_at cpus n) zone ≡ recent_at c zone
   recent_same = ap (λ (c : Cpu). recent_at c zone) same
@@ -169,7 +169,7 @@ module _ (b : Bundle) (plan : Plan) (log : List SupplyEntry) (round zone : ℕ) 
 
   -- it settles
   turned_by_settling : (d : Cpu) (shelf : Book) → nat_lt 0 (length (recent_at c zone)) ≡ true → shelf ≡ record book { visits = book.visits ++ settled_of round c.cpu (recent_at c zone) ∷ [] } →
-      ((j : History) → KeepsHistory book j → IsCaughtUp c zone j → (after : History) × KeepsHistory shelf after × Settles (book_params book) c.cpu j after (recent_at c zone) × IsCaughtUp d zone after) →
+      ((j : History) → KeepsHistory book j → IsCaughtUpWith c zone j → (after : History) × KeepsHistory shelf after × Settles (book_params book) c.cpu j after (recent_at c zone) × IsCaughtUpWith d zone after) →
       recent_at d zone ≡ [] → IsElsewhere c d zone Flush →
       (next : History) × HasTurned p zone n c d book shelf (cons_option (settling round z.late n) []) j next
   turned_by_settling d shelf some is settles recent elsewhere =
@@ -185,8 +185,8 @@ module _ (b : Bundle) (plan : Plan) (log : List SupplyEntry) (round zone : ℕ) 
           caught = made.3;
           answers = made.2.answers;
           end = made.2.end
-              ∙ ap (λ (q : ZoneParams). with_cpu_part j.made.end c.cpu (own_now q j c.cpu (recent_at c zone))) params_are
-              ∙ ap (λ k. with_cpu_part j.made.end k (own_now p j k (recent_at c zone))) number;
+              ∙ ap (λ (q : ZoneParams). with_cpu_part j.made.end c.cpu (own_in q j c.cpu (recent_at c zone))) params_are
+              ∙ ap (λ k. with_cpu_part j.made.end k (own_in p j k (recent_at c zone))) number;
           recent = recent;
           is_visits = visits ∙ sym (ap (λ (o : Option Visit). book.visits ++ cons_option o []) settled);
           is_shelf = is ∙ ap (λ (l : List Visit). let b : Book = record book { visits = l } in b) (sym visits);
@@ -232,14 +232,14 @@ module _ (b : Bundle) (plan : Plan) (log : List SupplyEntry) (round zone : ℕ) 
         subst (λ (state : ZoneState). IsDelayed p z.state state (λ k. recent_at (cpu_at now k) zone)) (ap (λ (own : CpuPart). with_cpu_part j.made.end n own) own ∙ sym turned.end)
         (caught_up p z.state j.made.end (λ k. recent_at (cpu_at cpus k) zone) (λ k. recent_at (cpu_at now k) zone) n within here.delayed (record { mine = recent_mine; others = recent_other }))
 
-    caught_now : (k : ℕ) → k < b.cpus → IsCaughtUp (cpu_at now k) zone next
+    caught_now : (k : ℕ) → k < b.cpus → IsCaughtUpWith (cpu_at now k) zone next
     caught_now k in' =
-        mine_or_other (λ k. k < b.cpus → IsCaughtUp (cpu_at now k) zone next) n k
-        (λ in'. subst (λ (d : Cpu). IsCaughtUp d zone next) (sym now_mine) turned.caught)
+        mine_or_other (λ k. k < b.cpus → IsCaughtUpWith (cpu_at now k) zone next) n k
+        (λ in'. subst (λ (d : Cpu). IsCaughtUpWith d zone next) (sym now_mine) turned.caught)
         (λ ne in'.
         let is = (at.each k in').number in
         let own : cpu_part next.made.end (cpu_at cpus k).cpu ≡ cpu_part j.made.end (cpu_at cpus k).cpu = ap (cpu_part next.made.end) is ∙ owns_same k ne ∙ sym (ap (cpu_part j.made.end) is) in
-        subst (λ (d : Cpu). IsCaughtUp d zone next) (sym (now_other k ne)) (caught_same (cpu_at cpus k) (cpu_at cpus k) zone j next refl refl (λ own has. has) own (here.caught k in'))) in'
+        subst (λ (d : Cpu). IsCaughtUpWith d zone next) (sym (now_other k ne)) (caught_alike (cpu_at cpus k) zone j next own (here.caught k in'))) in'
 
     more : n + 1 ≤ length z.late
     more = let long = at.late_long in let in' = lt in omega arith
@@ -309,7 +309,7 @@ module _ (b : Bundle) (plan : Plan) (log : List SupplyEntry) (round zone : ℕ) 
         }
 
   pub one_settled : (d : Cpu) (shelf : Book) → nat_lt 0 (length (recent_at c zone)) ≡ true → shelf ≡ record book { visits = book.visits ++ settled_of round c.cpu (recent_at c zone) ∷ [] } →
-      ((j : History) → KeepsHistory book j → IsCaughtUp c zone j → (after : History) × KeepsHistory shelf after × Settles (book_params book) c.cpu j after (recent_at c zone) × IsCaughtUp d zone after) →
+      ((j : History) → KeepsHistory book j → IsCaughtUpWith c zone j → (after : History) × KeepsHistory shelf after × Settles (book_params book) c.cpu j after (recent_at c zone) × IsCaughtUpWith d zone after) →
       recent_at d zone ≡ [] → IsElsewhere c d zone Flush → AreSettledBelow b plan log round zone z first (n + 1) (slice_set cpus n d) shelf
   one_settled d shelf some is settles recent elsewhere = let turned = turned_by_settling d shelf some is settles recent elsewhere in one_more_settled d shelf turned.0 turned.1
 

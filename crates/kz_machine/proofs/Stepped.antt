@@ -27,9 +27,9 @@ use Rattle.kz_laws.proofs.Undelayed.{IsLateNow, mine_or_other, one_more_late, ca
 use Rattle.kz_supply.specs.Exchange.{Exchange, ask_of, answer_of, entries_of}
 use Rattle.kz_supply.specs.Thin.{ThinSupply, thin_with_exchanges}
 use Rattle.kz_book.specs.Book.{Book, History}
-use Rattle.kz_book.specs.Visits.{own_now, visit_of}
+use Rattle.kz_book.specs.Visits.{own_in, visit_of}
 use Rattle.kz_cpu.specs.Cpu.{Cpu, recent_at}
-use Rattle.kz_cpu.specs.Caught.{IsCaughtUp}
+use Rattle.kz_cpu.specs.Caught.{IsCaughtUpWith}
 use Rattle.kz_model.specs.Store.Replies.{RepliesSoFar}
 use Rattle.kz_machine.specs.RecordRoom.{no_replies}
 use Rattle.kz_machine.specs.Needs.{needed_rooms, allocations_of, most_entries, frames_needed}
@@ -37,7 +37,7 @@ use Rattle.kz_machine.specs.Lookups.{no_cpu, no_book, cpu_at, book_at}
 use Rattle.kz_machine.specs.Machine.{Machine, replies_at}
 use Rattle.kz_machine.specs.Stands.{IsCpuAt, IsZoneAt, StandsForPlay, IsTurn}
 use Rattle.kz_machine.specs.Steps.{Parties, parties, IsStepDone, own_here, needs_here, effect_here, end_with}
-use Rattle.kz_machine.proofs.Elsewhere.{cpu_keeps, caught_same, set_elsewhere, zone_elsewhere}
+use Rattle.kz_machine.proofs.Elsewhere.{cpu_keeps, caught_alike, set_elsewhere, zone_elsewhere}
 use Rattle.kz_machine.proofs.OwnAsks.{step_entries_own}
 use Rattle.kz_machine.proofs.Ready.{is_cpu, in_zones, zone_of_name_is}
 
@@ -108,7 +108,7 @@ module _ (b : Bundle) (plan : Plan) (m : Machine) (s : Play) (cpu zone : ℕ) (s
   within = subst (λ n. cpu < n) (sym cpus_alone) lt
 
   own_is : own_here p old j ≡ own
-  own_is = ap (λ n. own_now p j n recent) here.number ∙ sym (there.delayed.own cpu within)
+  own_is = ap (λ n. own_in p j n recent) here.number ∙ sym (there.delayed.own cpu within)
 
   needs_is : needs_here p old j step ≡ needs
   needs_is = ap (λ (own : CpuPart). needs_visit p own step) own_is
@@ -237,14 +237,14 @@ module _ (b : Bundle) (plan : Plan) (m : Machine) (s : Play) (cpu zone : ℕ) (s
           subst (λ (e : Effect). IsDelayed p (record { shared = e.shared; own = slice_set z.state.own cpu e.own }) j.made.end (λ k. recent_at (cpu_at now k) zone)) (sym (effect_late none))
           (one_more_late p z.state j.made.end (λ k. recent_at (cpu_at m.cpus k) zone) (λ k. recent_at (cpu_at now k) zone) cpu step within there.delayed none new)
 
-  caught_now : (k : ℕ) → k < b.cpus → IsCaughtUp (cpu_at now k) zone next
+  caught_now : (k : ℕ) → k < b.cpus → IsCaughtUpWith (cpu_at now k) zone next
   caught_now k in' =
-      mine_or_other (λ k. k < b.cpus → IsCaughtUp (cpu_at now k) zone next) cpu k
-      (λ in'. subst (λ (d : Cpu). IsCaughtUp d zone next) (sym now_mine) does.caught)
+      mine_or_other (λ k. k < b.cpus → IsCaughtUpWith (cpu_at now k) zone next) cpu k
+      (λ in'. subst (λ (d : Cpu). IsCaughtUpWith d zone next) (sym now_mine) does.caught)
       (λ ne in'.
       let number = (at.cpus k in').number in
       let same : cpu_part next.made.end (cpu_at m.cpus k).cpu ≡ cpu_part j.made.end (cpu_at m.cpus k).cpu = ap (cpu_part next.made.end) number ∙ owns_same k ne ∙ sym (ap (cpu_part j.made.end) number) in
-      subst (λ (d : Cpu). IsCaughtUp d zone next) (sym (now_other k ne)) (caught_same (cpu_at m.cpus k) (cpu_at m.cpus k) zone j next refl refl (λ own has. has) same (there.caught k in'))) in'
+      subst (λ (d : Cpu). IsCaughtUpWith d zone next) (sym (now_other k ne)) (caught_alike (cpu_at m.cpus k) zone j next same (there.caught k in'))) in'
 
   late_after : (k : ℕ) → k < b.cpus → slice_index after.late k ≡ length (recent_at (cpu_at now k) zone)
   late_after k in' =

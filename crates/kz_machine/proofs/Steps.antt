@@ -16,9 +16,9 @@ use Rattle.kz_model.proofs.LateSteps.{need_none-push, part_after-push}
 use Rattle.kz_supply.specs.Exchange.{Exchange, ask_of, entries_of}
 use Rattle.kz_supply.specs.Thin.{thin_with_exchanges}
 use Rattle.kz_book.specs.Book.{History, KeepsHistory, params_of}
-use Rattle.kz_book.specs.Visits.{Extends, own_now, visit_of}
+use Rattle.kz_book.specs.Visits.{Extends, own_in, visit_of}
 use Rattle.kz_cpu.specs.Cpu.{Cpu, Has, IsElsewhere, cache_at, recent_at}
-use Rattle.kz_cpu.specs.Caught.{IsCaughtUp}
+use Rattle.kz_cpu.specs.Caught.{IsCaughtUpWith}
 use Rattle.kz_machine.specs.Steps.{Parties, parties, IsReady, IsStepDone, needs_here, own_here, effect_here}
 
 -- a test that is known
@@ -36,15 +36,15 @@ module _ (p : ZoneParams) (round : ℕ) (old : Parties) (cpu : Cpu) (step : Step
     (needs : (own : CpuPart) → Has old.cpu p.zone own → false ≡ needs_visit (cache_at old.cpu p.zone).params own step)
     (replies : (own : CpuPart) → Has old.cpu p.zone own → reply ≡ (local_answer (cache_at old.cpu p.zone).params own step).reply)
     (has : (own : CpuPart) → Has old.cpu p.zone own → Has cpu p.zone (local_answer (cache_at old.cpu p.zone).params own step).own)
-    (recent : recent_at cpu p.zone ≡ recent_at old.cpu p.zone ++ step ∷ []) (elsewhere : IsElsewhere old.cpu cpu p.zone step) (j : History) (keeps : KeepsHistory old.book j) (caught : IsCaughtUp old.cpu p.zone j) where
+    (recent : recent_at cpu p.zone ≡ recent_at old.cpu p.zone ++ step ∷ []) (elsewhere : IsElsewhere old.cpu cpu p.zone step) (j : History) (keeps : KeepsHistory old.book j) (caught : IsCaughtUpWith old.cpu p.zone j) where
   abbrev q : ZoneParams
   q = (cache_at old.cpu p.zone).params
 
   abbrev own : CpuPart
-  own = own_now q j old.cpu.cpu (recent_at old.cpu p.zone)
+  own = own_in q j old.cpu.cpu (recent_at old.cpu p.zone)
 
   own_is : own ≡ own_here p old j
-  own_is = ap (λ (q : ZoneParams). own_now q j old.cpu.cpu (recent_at old.cpu p.zone)) ready.cache
+  own_is = ap (λ (q : ZoneParams). own_in q j old.cpu.cpu (recent_at old.cpu p.zone)) ready.cache
 
   none : needs_visit q own step ≡ false
   none = sym (needs own caught.has)
@@ -52,7 +52,7 @@ module _ (p : ZoneParams) (round : ℕ) (old : Parties) (cpu : Cpu) (step : Step
   none_here : needs_here p old j step ≡ false
   none_here = ap (λ (own : CpuPart). needs_visit p own step) (sym own_is) ∙ ap (λ (q : ZoneParams). needs_visit q own step) (sym ready.cache) ∙ none
 
-  caught_now : IsCaughtUp cpu p.zone j
+  caught_now : IsCaughtUpWith cpu p.zone j
   caught_now =
       let first = cpu_part j.made.end old.cpu.cpu in
       let late = recent_at old.cpu p.zone in
@@ -61,8 +61,8 @@ module _ (p : ZoneParams) (round : ℕ) (old : Parties) (cpu : Cpu) (step : Step
       record {
         none = subst (λ (q : ZoneParams). NeedNone q (cpu_part j.made.end cpu.cpu) (recent_at cpu p.zone)) (sym elsewhere.params)
             (subst (λ n. NeedNone q (cpu_part j.made.end n) (recent_at cpu p.zone)) (sym elsewhere.cpu) (subst (λ (steps : List Step). NeedNone q first steps) (sym recent) none_late));
-        has = subst (λ (q : ZoneParams). Has cpu p.zone (own_now q j cpu.cpu (recent_at cpu p.zone))) (sym elsewhere.params)
-            (subst (λ n. Has cpu p.zone (own_now q j n (recent_at cpu p.zone))) (sym elsewhere.cpu) (subst (λ (steps : List Step). Has cpu p.zone (part_after q first steps)) (sym recent) has_late));
+        has = subst (λ (q : ZoneParams). Has cpu p.zone (own_in q j cpu.cpu (recent_at cpu p.zone))) (sym elsewhere.params)
+            (subst (λ n. Has cpu p.zone (own_in q j n (recent_at cpu p.zone))) (sym elsewhere.cpu) (subst (λ (steps : List Step). Has cpu p.zone (part_after q first steps)) (sym recent) has_late));
       }
 
   reply_is : reply ≡ (effect_here p old j step []).reply
@@ -97,14 +97,14 @@ module _ (p : ZoneParams) (round : ℕ) (old : Parties) (cpu : Cpu) (step : Step
 -- ---- a visit
 
 pub visit_does : (p : ZoneParams) (round : ℕ) (old new : Parties) (step : Step) (reply : Reply) (exchanges : List Exchange) → IsReady p old step →
-    ((j : History) → KeepsHistory old.book j → IsCaughtUp old.cpu p.zone j → needs_here p old j step ≡ true) →
+    ((j : History) → KeepsHistory old.book j → IsCaughtUpWith old.cpu p.zone j → needs_here p old j step ≡ true) →
     new.supply ≡ thin_with_exchanges p.zone exchanges old.supply →
     ((b : Bundle) → old.supply.counted.frames ≡ b.frames → old.supply.counted.pages ≡ b.pages → entries_of p.zone exchanges ≡ answered b p.zone old.supply.counted.log (map ask_of exchanges)) →
     new.book.visits ≡ old.book.visits ++ visit_of round old.cpu.cpu (recent_at old.cpu p.zone) ∷ [] → new.book.room ≡ old.book.room → new.book.zone.most_chunks ≡ old.book.zone.most_chunks → new.book.zone.most_gifts ≡ old.book.zone.most_gifts →
-    ((j : History) → KeepsHistory old.book j → IsCaughtUp old.cpu p.zone j →
-    (after : History) × KeepsHistory new.book after × Extends (params_of old.book) old.cpu.cpu j after (recent_at old.cpu p.zone) step reply exchanges × IsCaughtUp new.cpu p.zone after) →
+    ((j : History) → KeepsHistory old.book j → IsCaughtUpWith old.cpu p.zone j →
+    (after : History) × KeepsHistory new.book after × Extends (params_of old.book) old.cpu.cpu j after (recent_at old.cpu p.zone) step reply exchanges × IsCaughtUpWith new.cpu p.zone after) →
     recent_at new.cpu p.zone ≡ [] → IsElsewhere old.cpu new.cpu p.zone step →
-    (j : History) → KeepsHistory old.book j → IsCaughtUp old.cpu p.zone j → (after : History) × (exchanges : List Exchange) × IsStepDone p round old new step reply j after exchanges
+    (j : History) → KeepsHistory old.book j → IsCaughtUpWith old.cpu p.zone j → (after : History) × (exchanges : List Exchange) × IsStepDone p round old new step reply j after exchanges
 visit_does p round old new step reply exchanges ready needs supply answers visits room most_chunks most_gifts extends recent elsewhere j keeps caught =
     let made = extends j keeps caught in
     let is : needs_here p old j step ≡ true = needs j keeps caught in

@@ -14,7 +14,7 @@ use Rattle.kz_laws.specs.PlayedAt.{IsPlaySound, HasTurn}
 use Rattle.kz_model.specs.Run.Rooms.{lines_on}
 use Rattle.kz_book.specs.Book.{Book, History, KeepsHistory}
 use Rattle.kz_cpu.specs.Cpu.{Cpu, IsTagged, cache_at, recent_at, binding_at}
-use Rattle.kz_cpu.specs.Caught.{IsCaughtUp}
+use Rattle.kz_cpu.specs.Caught.{IsCaughtUpWith}
 use Rattle.kz_machine.specs.RecordRoom.{HasRecordRoom}
 use Rattle.kz_machine.specs.Lookups.{cpu_at, book_at}
 use Rattle.kz_machine.specs.Machine.{Machine, replies_at}
@@ -41,7 +41,7 @@ pub record IsZoneAt (b : Bundle) (plan : Plan) (cpus : List Cpu) (log : List Sup
   pub keeps : KeepsHistory book history
   pub answers : history.answers ≡ answers_at zone log
   pub delayed : IsDelayed (params_of b plan zone) z.state history.made.end (λ cpu. recent_at (cpu_at cpus cpu) zone)
-  pub caught : (cpu : ℕ) → cpu < b.cpus → IsCaughtUp (cpu_at cpus cpu) zone history
+  pub caught : (cpu : ℕ) → cpu < b.cpus → IsCaughtUpWith (cpu_at cpus cpu) zone history
   pub late : (cpu : ℕ) → cpu < b.cpus → slice_index z.late cpu ≡ length (recent_at (cpu_at cpus cpu) zone)
 
 -- The machine stands for this play of the bundle: each zone's book, with the steps that the CPUs have done since, is

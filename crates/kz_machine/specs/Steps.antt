@@ -15,9 +15,9 @@ use Rattle.kz_model.specs.Run.Supply.{pages_left}
 use Rattle.kz_supply.specs.Supply.{stock_of, room_left, backs_left, grants_left}
 use Rattle.kz_supply.specs.Thin.{ThinSupply, HasMade, thin_with_exchanges}
 use Rattle.kz_book.specs.Book.{Book, History, KeepsHistory, HasRoom, params_of}
-use Rattle.kz_book.specs.Visits.{own_now, effect_in, visit_of, gives, trims, ReadsFew}
+use Rattle.kz_book.specs.Visits.{own_in, effect_in, visit_of, gives, trims, ReadsFew}
 use Rattle.kz_cpu.specs.Cpu.{Cpu, IsOnZone, IsElsewhere, cache_at, recent_at}
-use Rattle.kz_cpu.specs.Caught.{IsCaughtUp}
+use Rattle.kz_cpu.specs.Caught.{IsCaughtUpWith}
 
 -- a CPU, the book of a zone, and the supply
 pub record Parties : Type 0 where
@@ -44,7 +44,7 @@ pub record IsReady (p : ZoneParams) (here : Parties) (step : Step) : Type 0 wher
   pub cache : (cache_at here.cpu p.zone).params ≡ p
   pub history : History
   pub keeps : KeepsHistory here.book history
-  pub caught : IsCaughtUp here.cpu p.zone history
+  pub caught : IsCaughtUpWith here.cpu p.zone history
   pub room : HasRoom here.book here.cpu.cpu (length (recent_at here.cpu p.zone) + 1)
   pub gifts : gives step ≡ true → length here.book.zone.transit < here.book.zone.most_gifts
   pub reads : ReadsFew step
@@ -63,7 +63,7 @@ pub record IsReady (p : ZoneParams) (here : Parties) (step : Step) : Type 0 wher
 
 -- what the CPU has of the zone after its recent steps
 abbrev pub own_here : ZoneParams → Parties → History → CpuPart
-own_here p here j = own_now p j here.cpu.cpu (recent_at here.cpu p.zone)
+own_here p here j = own_in p j here.cpu.cpu (recent_at here.cpu p.zone)
 
 abbrev pub effect_here : ZoneParams → Parties → History → Step → List Exchange → Effect
 effect_here p here j step exchanges = effect_in p j here.cpu.cpu (recent_at here.cpu p.zone) step exchanges
@@ -81,7 +81,7 @@ needs_here p here j step = needs_visit p (own_here p here j) step
 pub record IsStepDone (p : ZoneParams) (round : ℕ) (old new : Parties) (step : Step) (reply : Reply)
     (before after : History) (exchanges : List Exchange) : Type 0 where
   pub keeps : KeepsHistory new.book after
-  pub caught : IsCaughtUp new.cpu p.zone after
+  pub caught : IsCaughtUpWith new.cpu p.zone after
   pub asks : map ask_of exchanges ≡ asks_of p before.made.end.shared old.cpu.cpu (own_here p old before) step
   pub answered_by : (b : Bundle) → old.supply.counted.frames ≡ b.frames → old.supply.counted.pages ≡ b.pages →
       entries_of p.zone exchanges ≡ answered b p.zone old.supply.counted.log (map ask_of exchanges)

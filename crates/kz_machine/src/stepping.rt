@@ -2,7 +2,7 @@
 ghost use Rattle.std.specs.Prelude.{◌≡◌, ◌<◌, ◌++◌, [], ◌∷◌, true, List, length};
 ghost use Rattle.kz_supply.specs.Exchange.{Exchange};
 ghost use Rattle.kz_book.specs.Book.{History, KeepsHistory};
-ghost use Rattle.kz_cpu.specs.Caught.{IsCaughtUp};
+ghost use Rattle.kz_cpu.specs.Caught.{IsCaughtUpWith};
 ghost use Rattle.kz_machine.specs.Steps.{IsReady, IsStepDone, parties, needs_here};
 
 use kz_book::Book;
@@ -23,9 +23,9 @@ fn visit(
     step: &Step,
 ) -> Reply
     requires ready { IsReady params.now (parties cpu.old book.old supply.old) step.now }
-    requires needs { (j : History) → KeepsHistory book.old j → IsCaughtUp cpu.old params.now.zone j →
+    requires needs { (j : History) → KeepsHistory book.old j → IsCaughtUpWith cpu.old params.now.zone j →
         needs_here params.now (parties cpu.old book.old supply.old) j step.now ≡ true }
-    ensures { (j : History) → KeepsHistory book.old j → IsCaughtUp cpu.old params.now.zone j →
+    ensures { (j : History) → KeepsHistory book.old j → IsCaughtUpWith cpu.old params.now.zone j →
         (after : History) × (exchanges : List Exchange) ×
         IsStepDone params.now round (parties cpu.old book.old supply.old)
         (parties cpu.new book.new supply.new) step.now result j after exchanges }
@@ -46,7 +46,7 @@ pub fn one_step(
 ) -> Reply
     requires ready { IsReady params.now (parties cpu.old book.old supply.old) step.now }
     requires room { length replies.old.items < replies.old.room }
-    ensures does { (j : History) → KeepsHistory book.old j → IsCaughtUp cpu.old params.now.zone j →
+    ensures does { (j : History) → KeepsHistory book.old j → IsCaughtUpWith cpu.old params.now.zone j →
         (after : History) × (exchanges : List Exchange) ×
         IsStepDone params.now round (parties cpu.old book.old supply.old)
         (parties cpu.new book.new supply.new) step.now result j after exchanges }
