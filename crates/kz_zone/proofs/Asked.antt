@@ -1,5 +1,5 @@
 -- What filling a stack asks, told of the zone.
-use Rattle.std.proofs.Common.{◌≡◌, ℕ, ◌+◌, true, false, not, if◌then◌else◌, List, [], ◌∷◌, ◌++◌, length, Option, Result, refl, ap, sym, ◌∙◌, subst, arith}
+use Rattle.std.proofs.Common.{◌≡◌, true, false, not, if◌then◌else◌, List, [], ◌∷◌, length, Option, Result, refl, ap, sym, ◌∙◌, subst, arith}
 use Rattle.rand_pcg.specs.Lcg.{Lcg}
 use Rattle.kz_model.specs.declared.step.Block.{Block}
 use Rattle.kz_model.specs.Zone.Pick.{ask_to_grow, has_idle}

@@ -1,5 +1,4 @@
-use Rattle.std.proofs.Common.{ap, ◌∙◌}
-use Rattle.std.specs.Option.{is_some}
+use Rattle.std.proofs.Common.{◌∙◌}
 use Rattle.kz_zone.proofs.chunks.Chunks.has_idle.Goals as goal
 
 pub returns-clause-idle : goal.returns-clause-idle
