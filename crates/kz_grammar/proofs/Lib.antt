@@ -1,0 +1,10 @@
+mod Borrowed
+mod Members
+mod Cases
+mod RowFacts
+mod NameRows
+mod NameScan
+mod RoundScan
+mod TurnCounts
+mod OrderScan
+mod Laws
