@@ -8,3 +8,5 @@ mod RoundScan
 mod TurnCounts
 mod OrderScan
 mod Laws
+mod Traces
+mod BundleNames

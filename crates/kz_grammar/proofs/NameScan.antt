@@ -97,7 +97,7 @@ rows_few rows cpu (Some bound) few suits = by_row (row_of bound.0 rows) refl (su
     by_row None e room = omega (arith, ap (λ (r : List Row). length r) (with_bound-new rows cpu bound e), length-append rows (new_row cpu bound ∷ []))
     by_row (Some row) e same = omega (arith, ap (λ (r : List Row). length r) (with_bound-old rows cpu bound row e))
 
-rows_differ : (rows : List Row) (cpu : ℕ) (o : Option (List ℕ × List ℕ)) → AreDifferent (row_names rows) → AreDifferent (row_names (with_bound rows cpu o))
+pub rows_differ : (rows : List Row) (cpu : ℕ) (o : Option (List ℕ × List ℕ)) → AreDifferent (row_names rows) → AreDifferent (row_names (with_bound rows cpu o))
 rows_differ rows cpu None differ = differ
 rows_differ rows cpu (Some bound) differ = by_row (row_of bound.0 rows) refl
   where

@@ -1,3 +1,4 @@
 pub mod Names
 pub mod Rounds
 pub mod NameLaws
+pub mod BundleNames
