@@ -1,24 +1,22 @@
 -- The names of a bundle whose draft has sound names.
-use Rattle.std.proofs.Common.{◌≡◌, ◌⊎◌, inl, inr, ⊎_elim, ℕ, zero, suc, ◌+◌, ◌<◌, Bool, true, false, if◌then◌else◌, List, [], ◌∷◌, length, map, fold, slice_index_or, Option, Some, None, refl, ap, sym, ◌∙◌, subst, arith}
+use Rattle.std.proofs.Common.{◌≡◌, ◌⊎◌, inl, inr, ⊎_elim, ℕ, suc, ◌+◌, ◌<◌, List, [], ◌∷◌, length, map, fold, slice_index_or, Some, refl, ap, sym, ◌∙◌, subst, arith}
 use Rattle.std.specs.Prelude.{Contains}
 use Rattle.std.specs.Str.{bytes_eq}
 use Rattle.std.specs.Cmp.Lexicographic.{bytes_decides}
 use Rattle.std.proofs.lemmas.Bool.{cases_Bool, cases_order, cond-true, cond-false}
 use Rattle.std.proofs.lemmas.List.{length-map, get_or-map}
 use Rattle.std.proofs.lemmas.List.Elements.{Contains-get_or}
-use Rattle.kz_model.specs.declared.bundle.Act.{Act}
 use Rattle.kz_model.specs.declared.bundle.Act.TheVariants as act
 use Rattle.kz_model.specs.declared.bundle.TraceStep.{TraceStep}
 use Rattle.kz_model.specs.declared.bundle.NameRow.{NameRow}
-use Rattle.kz_model.specs.declared.bundle.Bundle.{Bundle}
 use Rattle.kz_model.specs.Grammar.Steps.{NamedStep, Alloc, AllocZero, Free, FreeAs, Give, Take, Read, Write, Flush, Trim}
-use Rattle.kz_model.specs.Grammar.Form.{StepLine, Section, Draft}
-use Rattle.kz_model.specs.Grammar.Stages.{Row, row_of, row_names, binds, with_row, CpuLine, lines_from, sections_of, step_lines, rows_of, type_names, place_of, act_of, step_of, bundle_of}
-use Rattle.kz_grammar.specs.Names.{Allocates, IsBound, AreDifferent, AreNamed}
+use Rattle.kz_model.specs.Grammar.Form.{Draft}
+use Rattle.kz_model.specs.Grammar.Stages.{Row, row_of, row_names, binds, with_row, CpuLine, sections_of, step_lines, rows_of, type_names, place_of, act_of, step_of, bundle_of}
+use Rattle.kz_grammar.specs.Names.{AreDifferent}
 use Rattle.kz_grammar.specs.BundleNames.{trace_at, name_at, IsAllocation, IsAllocatedOn, HasSoundNameRows, SpelledNameRowsAreSound}
 use Rattle.kz_grammar.specs.NameLaws.{HasSoundNames}
 use Rattle.kz_grammar.proofs.RowFacts.{HasRow, HasFirst, bound_has_row, rows_from}
-use Rattle.kz_grammar.proofs.NameRows.{named_has_row, row_has_name}
+use Rattle.kz_grammar.proofs.NameRows.{named_has_row}
 use Rattle.kz_grammar.proofs.NameScan.{rows_differ}
 use Rattle.kz_grammar.proofs.Laws.{spelled_is_sound}
 use Rattle.kz_grammar.proofs.Traces.{IsOfLine, line_of_step, step_of_line}
@@ -222,4 +220,4 @@ module _ (d : Draft) (sound : HasSoundNames d) where
   }
 
 pub spelled_name_rows : SpelledNameRowsAreSound
-spelled_name_rows bytes b spells = subst HasSoundNameRows (sym spells.bundle) (bundle_names spells.said (spelled_is_sound bytes b spells).0)
+spelled_name_rows bytes b spells = subst HasSoundNameRows (sym spells.bundle) (bundle_names spells.said (spelled_is_sound bytes b spells).1)

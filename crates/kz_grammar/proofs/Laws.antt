@@ -1,15 +1,18 @@
--- The stages of names and of rounds, by their outcomes.
-use Rattle.std.proofs.Common.{◌≡◌, ℕ, ◌+◌, List, [], Option, Some, None, slice_index, refl, sym, ◌∙◌, subst, arith}
+-- The later stages by their outcomes, and all of them.
+use Rattle.std.proofs.Common.{◌≡◌, ◌⊎◌, inl, inr, ℕ, ◌+◌, List, [], Option, Some, None, Result, Ok, Err, slice_index, refl, ap, sym, ◌∙◌, subst, arith}
 use Rattle.std.specs.Option.{IfSome}
+use Rattle.kz_model.specs.declared.bundle.Bundle.{Bundle}
 use Rattle.kz_model.specs.declared.bundle.OrderLine.{OrderLine}
 use Rattle.kz_model.specs.declared.grammar.Cause.TheVariants as cause
 use Rattle.kz_model.specs.declared.grammar.Refusal.{Refusal}
-use Rattle.kz_model.specs.Grammar.Form.{Draft}
-use Rattle.kz_model.specs.Grammar.Stages.{else_fault, type_names, step_lines, sections_of, types_fault, names_fault, left_in, rounds_of, order_fault, rounds_fault}
+use Rattle.kz_model.specs.Grammar.Form.{Draft, form_of}
+use Rattle.kz_model.specs.Grammar.Stages.{else_fault, type_names, step_lines, sections_of, types_fault, names_fault, left_in, rounds_of, order_fault, rounds_fault, later_fault, bundle_of, unless, after_form}
 use Rattle.kz_grammar.specs.Rounds.{HaveEquallyManyBreaks, IsRoundsFault, IsWholeOrder, IsOrderFault}
-use Rattle.kz_grammar.specs.NameLaws.{HasSoundRounds, BreaksRoundsAt, SpelledIsSound, NameFaultsAreTrue, RoundFaultsAreTrue}
+use Rattle.kz_grammar.specs.Declarations.{HasSoundTypes}
+use Rattle.kz_grammar.specs.NameLaws.{HasSoundNames, HasSoundRounds, BreaksRoundsAt, IsLaterFault, SpelledIsSound, TypeFaultsAreTrue, NameFaultsAreTrue, RoundFaultsAreTrue, FirstFaultsAreTrue}
 use Rattle.kz_grammar.proofs.NameScan.{Outcome, none_yet, scan}
 use Rattle.kz_grammar.proofs.RoundScan.{RoundsOutcome, rounds_outcome}
+use Rattle.kz_grammar.proofs.TypeScan.{StageSays, stage_says}
 use Rattle.kz_grammar.proofs.OrderScan.{IsLeft, left_is, OrderOutcome, scan as order_scan}
 
 names_outcome : (d : Draft) → Outcome (type_names d) (step_lines d) (names_fault d)
@@ -64,16 +67,49 @@ rounds_say d = by_rounds (rounds_of (sections_of d)) (rounds_outcome (sections_o
 pub round_faults_are_true : (d : Draft) → RoundFaultsAreTrue d
 round_faults_are_true d = record { none = λ e. subst (RoundsSay d) e (rounds_say d); some = λ refusal e. subst (RoundsSay d) e (rounds_say d) }
 
-pub spelled_is_sound : SpelledIsSound
-spelled_is_sound bytes b spells =
-    let d = spells.said in
-    let later = then_none (types_fault d) (else_fault (names_fault d) (rounds_fault d)) spells.faultless in
-    ((name_faults_are_true d).none (first_none (names_fault d) (rounds_fault d) later), (round_faults_are_true d).none (then_none (names_fault d) (rounds_fault d) later))
-  where
-    first_none : (a b : Option Refusal) → else_fault a b ≡ None → a ≡ None
-    first_none None b e = refl
-    first_none (Some refusal) b e = absurd (cc)
+pub type_faults_are_true : (d : Draft) → TypeFaultsAreTrue d
+type_faults_are_true d = record { none = λ e. subst (StageSays d) e (stage_says d); some = λ refusal e. subst (StageSays d) e (stage_says d) }
 
-    then_none : (a b : Option Refusal) → else_fault a b ≡ None → b ≡ None
-    then_none None b e = e
-    then_none (Some refusal) b e = absurd (cc)
+-- ---- all stages
+
+abbrev LaterSays : Draft → Option Refusal → Type 0
+LaterSays d None = HasSoundTypes d × HasSoundNames d × HasSoundRounds d
+LaterSays d (Some refusal) = IsLaterFault d refusal.line refusal.cause
+
+later_says : (d : Draft) → LaterSays d (later_fault d)
+later_says d = by_types (types_fault d) (stage_says d)
+  where
+    by_rounds : (o : Option Refusal) → RoundsSay d o → HasSoundTypes d → HasSoundNames d → LaterSays d o
+    by_rounds None rounds types names = (types, names, rounds)
+    by_rounds (Some refusal) fault types names = inr (inr (types, names, fault))
+
+    by_names : (o : Option Refusal) → Outcome (type_names d) (step_lines d) o → HasSoundTypes d → LaterSays d (else_fault o (rounds_fault d))
+    by_names None names types = by_rounds (rounds_fault d) (rounds_say d) types names
+    by_names (Some refusal) fault types = inr (inl (types, fault))
+
+    by_types : (o : Option Refusal) → StageSays d o → LaterSays d (else_fault o (else_fault (names_fault d) (rounds_fault d)))
+    by_types None types = by_names (names_fault d) (names_outcome d) types
+    by_types (Some refusal) fault = inl fault
+
+pub spelled_is_sound : SpelledIsSound
+spelled_is_sound bytes b spells = subst (LaterSays spells.said) spells.faultless (later_says spells.said)
+
+abbrev refused_bundle : Refusal → Result Bundle Refusal
+refused_bundle refusal = Err refusal
+
+pub first_faults_are_true : FirstFaultsAreTrue
+first_faults_are_true bytes refusal e = by_form (form_of bytes) refl e
+  where
+    not_ok : (b : Bundle) → Ok b ≡ Err refusal → ⊥
+    not_ok b e = cc
+
+    same : (other : Refusal) → refused_bundle other ≡ Err refusal → other ≡ refusal
+    same other e = cc
+
+    by_fault : (d : Draft) → form_of bytes ≡ Ok d → (o : Option Refusal) → LaterSays d o → unless d o ≡ Err refusal → (form_of bytes ≡ Err refusal) ⊎ ((d : Draft) × (form_of bytes ≡ Ok d) × IsLaterFault d refusal.line refusal.cause)
+    by_fault d form None sound e = absurd (not_ok (bundle_of d) e)
+    by_fault d form (Some other) fault e = inr (d, form, subst (λ (r : Refusal). IsLaterFault d r.line r.cause) (same other e) fault)
+
+    by_form : (o : Result Draft Refusal) → form_of bytes ≡ o → after_form o ≡ Err refusal → (form_of bytes ≡ Err refusal) ⊎ ((d : Draft) × (form_of bytes ≡ Ok d) × IsLaterFault d refusal.line refusal.cause)
+    by_form (Err other) form e = inl (form ∙ ap (λ (r : Refusal). Err r) (same other e))
+    by_form (Ok d) form e = by_fault d form (later_fault d) (later_says d) e

@@ -10,3 +10,6 @@ mod OrderScan
 mod Laws
 mod Traces
 mod BundleNames
+mod FoundTypes
+mod BraceWalk
+mod TypeScan

@@ -1,4 +1,5 @@
 pub mod Names
 pub mod Rounds
+pub mod Declarations
 pub mod NameLaws
 pub mod BundleNames

@@ -1,14 +1,15 @@
--- What holds of the names, the rounds and the order of what is spelled, and what a fault of these stages says.
-use Rattle.std.specs.Prelude.{◌≡◌, ℕ, List, Some, None}
+-- What holds of the types, the names, the rounds and the order of what is spelled, and what a fault of these stages says.
+use Rattle.std.specs.Prelude.{◌≡◌, ◌⊎◌, ℕ, List, Some, None, Ok, Err}
 use Rattle.std.specs.Option.{IfSome}
 use Rattle.kz_model.specs.declared.bundle.Bundle.{Bundle}
 use Rattle.kz_model.specs.declared.bundle.OrderLine.{OrderLine}
 use Rattle.kz_model.specs.declared.grammar.Cause.{Cause}
 use Rattle.kz_model.specs.declared.grammar.Cause.TheVariants as cause
 use Rattle.kz_model.specs.declared.grammar.Refusal.{Refusal}
-use Rattle.kz_model.specs.Grammar.Form.{Draft}
-use Rattle.kz_model.specs.Grammar.Stages.{type_names, step_lines, sections_of, names_fault, rounds_fault}
-use Rattle.kz_model.specs.Grammar.Spelling.{Spells}
+use Rattle.kz_model.specs.Grammar.Form.{Draft, form_of}
+use Rattle.kz_model.specs.Grammar.Stages.{type_names, step_lines, sections_of, types_fault, names_fault, rounds_fault}
+use Rattle.kz_model.specs.Grammar.Spelling.{Spells, IsFirstFault}
+use Rattle.kz_grammar.specs.Declarations.{HasSoundTypes, BreaksTypesAt}
 use Rattle.kz_grammar.specs.Names.{AreNamed, IsNameFault}
 use Rattle.kz_grammar.specs.Rounds.{HaveEquallyManyBreaks, IsRoundsFault, IsWholeOrder, IsOrderFault}
 
@@ -33,14 +34,26 @@ BreaksRoundsAt d line cause.BadOrder = HaveEquallyManyBreaks (sections_of d) ×
     × IsOrderFault (sections_of d) d.section.breaks turns d.order_at line)
 BreaksRoundsAt d line other = ⊥
 
+-- What a fault of the later stages says: of types; of names, where no type has a fault; or of rounds and the order, where
+-- neither has one.
+abbrev pub IsLaterFault : Draft → ℕ → Cause → Type 0
+IsLaterFault d line cause =
+    BreaksTypesAt d line cause
+    ⊎ ((HasSoundTypes d × BreaksNamesAt d line cause)
+    ⊎ (HasSoundTypes d × HasSoundNames d × BreaksRoundsAt d line cause))
+
 -- ---- laws
 
 -- what is spelled breaks no sentence
 abbrev pub SpelledIsSound : Type 0
 SpelledIsSound = (bytes : List ℕ) (b : Bundle) (spells : Spells bytes b) →
-    HasSoundNames spells.said × HasSoundRounds spells.said
+    HasSoundTypes spells.said × HasSoundNames spells.said × HasSoundRounds spells.said
 
--- The stage of names gives a fault exactly where a sentence of names is broken: the first line that breaks one.
+-- Each stage has no fault only where no sentence of it is broken, and a fault only at the first line that breaks one.
+pub record TypeFaultsAreTrue (d : Draft) : Type 0 where
+  pub none : types_fault d ≡ None → HasSoundTypes d
+  pub some : (refusal : Refusal) → types_fault d ≡ Some refusal → BreaksTypesAt d refusal.line refusal.cause
+
 pub record NameFaultsAreTrue (d : Draft) : Type 0 where
   pub none : names_fault d ≡ None → HasSoundNames d
   pub some : (refusal : Refusal) → names_fault d ≡ Some refusal → BreaksNamesAt d refusal.line refusal.cause
@@ -48,3 +61,9 @@ pub record NameFaultsAreTrue (d : Draft) : Type 0 where
 pub record RoundFaultsAreTrue (d : Draft) : Type 0 where
   pub none : rounds_fault d ≡ None → HasSoundRounds d
   pub some : (refusal : Refusal) → rounds_fault d ≡ Some refusal → BreaksRoundsAt d refusal.line refusal.cause
+
+-- The first fault of a text is one of its form, or what it says breaks a sentence at that line.
+abbrev pub FirstFaultsAreTrue : Type 0
+FirstFaultsAreTrue = (bytes : List ℕ) (refusal : Refusal) → IsFirstFault bytes refusal →
+    (form_of bytes ≡ Err refusal)
+    ⊎ ((d : Draft) × (form_of bytes ≡ Ok d) × IsLaterFault d refusal.line refusal.cause)

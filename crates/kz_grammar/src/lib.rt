@@ -1,11 +1,12 @@
 //! Laws over the grammar of bundles, in the subject's own words.
 //!
 //! What is spelled is judged by sentences over the text's lines themselves, and not by how a reader goes over them:
-//! names and types (specs/Names), rounds and the order (specs/Rounds). No code that runs stands here.
+//! declarations of types (specs/Declarations), names (specs/Names), rounds and the order (specs/Rounds), and the names of
+//! a bundle by number (specs/BundleNames). No code that runs stands here.
 //!
 //! Contract: each law is the contract of a function that does nothing (src/names.rt).
 #![tactic(auto)]
 
 mod names;
 
-pub use names::{name_faults_are_true, round_faults_are_true, what_is_spelled_is_sound};
+pub use names::{later_faults_are_true, what_is_spelled_is_sound};

@@ -1,20 +1,19 @@
-//! Laws over names, rounds and the order, each the contract of a function that does nothing.
-ghost use Rattle.kz_model.specs.Grammar.Form.{Draft};
+//! Laws over types, names, rounds and the order, each the contract of a function that does nothing.
 ghost use Rattle.kz_grammar.specs.BundleNames.{SpelledNameRowsAreSound};
-ghost use Rattle.kz_grammar.specs.NameLaws.{SpelledIsSound, NameFaultsAreTrue, RoundFaultsAreTrue};
+ghost use Rattle.kz_grammar.specs.NameLaws.{SpelledIsSound, TypeFaultsAreTrue, NameFaultsAreTrue, RoundFaultsAreTrue, FirstFaultsAreTrue};
+ghost use Rattle.kz_model.specs.Grammar.Form.{Draft};
 
-/// In what is spelled, each name has its `a` and `z` lines on one CPU and with one type, and rounds and order agree.
+/// In what is spelled, each name has its `a` and `z` lines on one CPU and with one type, every name of a step has one,
+/// every type is declared, and an order names each CPU as often as it has steps.
 pub fn what_is_spelled_is_sound()
     ensures text { SpelledIsSound }
     ensures bundle { SpelledNameRowsAreSound }
 {}
 
-/// A fault of names comes only where a sentence of names is broken, at the first line that breaks one.
-pub fn name_faults_are_true()
-    ensures { (d : Draft) → NameFaultsAreTrue d }
-{}
-
-/// A fault of rounds comes only where a section or the order breaks its sentence.
-pub fn round_faults_are_true()
-    ensures { (d : Draft) → RoundFaultsAreTrue d }
+/// A fault of the stages after the form comes only where its own sentence is broken, at the first line that breaks one.
+pub fn later_faults_are_true()
+    ensures types { (d : Draft) → TypeFaultsAreTrue d }
+    ensures names { (d : Draft) → NameFaultsAreTrue d }
+    ensures rounds { (d : Draft) → RoundFaultsAreTrue d }
+    ensures first { FirstFaultsAreTrue }
 {}
