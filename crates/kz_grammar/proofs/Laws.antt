@@ -1,18 +1,22 @@
 -- The later stages by their outcomes, and all of them.
-use Rattle.std.proofs.Common.{◌≡◌, ◌⊎◌, inl, inr, ℕ, ◌+◌, List, [], Option, Some, None, Result, Ok, Err, slice_index, refl, ap, sym, ◌∙◌, subst, arith}
+use Rattle.std.proofs.Common.{◌≡◌, ◌⊎◌, inl, inr, ℕ, ◌+◌, List, [], length, Option, Some, None, Result, Ok, Err, slice_index, refl, ap, sym, ◌∙◌, subst, arith}
 use Rattle.std.specs.Option.{IfSome}
 use Rattle.kz_model.specs.declared.bundle.Bundle.{Bundle}
 use Rattle.kz_model.specs.declared.bundle.OrderLine.{OrderLine}
 use Rattle.kz_model.specs.declared.grammar.Cause.TheVariants as cause
 use Rattle.kz_model.specs.declared.grammar.Refusal.{Refusal}
 use Rattle.kz_model.specs.Grammar.Form.{Draft, form_of}
-use Rattle.kz_model.specs.Grammar.Stages.{else_fault, type_names, step_lines, sections_of, types_fault, names_fault, left_in, rounds_of, order_fault, rounds_fault, later_fault, bundle_of, unless, after_form}
+use Rattle.kz_model.specs.Grammar.Stages.{else_fault, fault_if, fault_of_layouts, type_names, step_lines, sections_of, types_fault, names_fault, left_in, rounds_of, order_fault, rounds_fault, later_fault, bundle_of, unless, after_form}
+use Rattle.std.proofs.lemmas.Bool.{le-ltb}
+use Rattle.kz_model.specs.Types.Plan.{classes_in_use}
 use Rattle.kz_grammar.specs.Rounds.{HaveEquallyManyBreaks, IsRoundsFault, IsWholeOrder, IsOrderFault}
 use Rattle.kz_grammar.specs.Declarations.{HasSoundTypes}
-use Rattle.kz_grammar.specs.NameLaws.{HasSoundNames, HasSoundRounds, BreaksRoundsAt, IsLaterFault, SpelledIsSound, TypeFaultsAreTrue, NameFaultsAreTrue, RoundFaultsAreTrue, FirstFaultsAreTrue}
+use Rattle.kz_grammar.specs.NameLaws.{HasSoundNames, HasSoundRounds, BreaksRoundsAt, IsLaterFault, SpelledIsSound, TypeFaultsAreTrue, NameFaultsAreTrue, RoundFaultsAreTrue, SoundHasNoFault, FirstFaultsAreTrue}
 use Rattle.kz_grammar.proofs.NameScan.{Outcome, none_yet, scan}
 use Rattle.kz_grammar.proofs.RoundScan.{RoundsOutcome, rounds_outcome}
 use Rattle.kz_grammar.proofs.TypeScan.{StageSays, stage_says}
+use Rattle.kz_grammar.proofs.SoundNames.{no_fault}
+use Rattle.kz_grammar.proofs.Turned.{equally_many, whole_order}
 use Rattle.kz_grammar.proofs.OrderScan.{IsLeft, left_is, OrderOutcome, scan as order_scan}
 
 names_outcome : (d : Draft) → Outcome (type_names d) (step_lines d) (names_fault d)
@@ -113,3 +117,43 @@ first_faults_are_true bytes refusal e = by_form (form_of bytes) refl e
     by_form : (o : Result Draft Refusal) → form_of bytes ≡ o → after_form o ≡ Err refusal → (form_of bytes ≡ Err refusal) ⊎ ((d : Draft) × (form_of bytes ≡ Ok d) × IsLaterFault d refusal.line refusal.cause)
     by_form (Err other) form e = inl (form ∙ ap (λ (r : Refusal). Err r) (same other e))
     by_form (Ok d) form e = by_fault d form (later_fault d) (later_says d) e
+
+-- ---- what is sound has no fault
+
+sound_types : (d : Draft) → HasSoundTypes d → types_fault d ≡ None
+sound_types d sound =
+    ap (fault_of_layouts d.header.budget) sound.laid_out
+    ∙ ap (λ b. fault_if b 6 (cause.BudgetShort (length (classes_in_use sound.layouts)))) (le-ltb d.header.budget (length (classes_in_use sound.layouts)) sound.enough)
+
+sound_names : (d : Draft) → HasSoundNames d → names_fault d ≡ None
+sound_names d sound = by_outcome (names_fault d) (names_outcome d)
+  where
+    by_outcome : (o : Option Refusal) → Outcome (type_names d) (step_lines d) o → o ≡ None
+    by_outcome None names = refl
+    by_outcome (Some refusal) fault = absurd (no_fault (type_names d) (step_lines d) refusal.line refusal.cause sound fault)
+
+sound_order : (d : Draft) (order : Option (List OrderLine)) → IfSome order (IsWholeOrder (sections_of d) d.section.breaks) → order_fault d order ≡ None
+sound_order d None whole = refl
+sound_order d (Some turns) whole = by_outcome (order_fault d (Some turns)) (order_says d (Some turns))
+  where
+    same : (other : List OrderLine) → Some turns ≡ Some other → turns ≡ other
+    same other e = cc
+
+    by_outcome : (o : Option Refusal) → OrderSays d (Some turns) o → o ≡ None
+    by_outcome None is = refl
+    by_outcome (Some refusal) fault =
+        absurd (whole_order (sections_of d) d.section.breaks fault.1.0 d.order_at refusal.line (subst (IsWholeOrder (sections_of d) d.section.breaks) (same fault.1.0 fault.1.1) whole) fault.1.2)
+
+sound_rounds : (d : Draft) → HasSoundRounds d → rounds_fault d ≡ None
+sound_rounds d sound = by_outcome (rounds_of (sections_of d)) (rounds_outcome (sections_of d))
+  where
+    by_outcome : (o : Option Refusal) → RoundsOutcome (sections_of d) o → else_fault o (order_fault d d.order) ≡ None
+    by_outcome None same = sound_order d d.order sound.order
+    by_outcome (Some refusal) fault = absurd (equally_many (sections_of d) refusal.line sound.rounds fault.1)
+
+pub sound_has_no_fault : SoundHasNoFault
+sound_has_no_fault d = (
+  λ e. subst (LaterSays d) e (later_says d),
+  λ sound. ap (λ (o : Option Refusal). else_fault o (else_fault (names_fault d) (rounds_fault d))) (sound_types d sound.0)
+      ∙ ap (λ (o : Option Refusal). else_fault o (rounds_fault d)) (sound_names d sound.1) ∙ sound_rounds d sound.2,
+)

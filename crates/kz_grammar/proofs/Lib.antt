@@ -13,3 +13,6 @@ mod BundleNames
 mod FoundTypes
 mod BraceWalk
 mod TypeScan
+mod Turned
+mod SoundNames
+mod Pigeons

@@ -1,5 +1,5 @@
 -- What holds of the types, the names, the rounds and the order of what is spelled, and what a fault of these stages says.
-use Rattle.std.specs.Prelude.{◌≡◌, ◌⊎◌, ℕ, List, Some, None, Ok, Err}
+use Rattle.std.specs.Prelude.{◌≡◌, ◌↔◌, ◌⊎◌, ℕ, List, Some, None, Ok, Err}
 use Rattle.std.specs.Option.{IfSome}
 use Rattle.kz_model.specs.declared.bundle.Bundle.{Bundle}
 use Rattle.kz_model.specs.declared.bundle.OrderLine.{OrderLine}
@@ -7,7 +7,7 @@ use Rattle.kz_model.specs.declared.grammar.Cause.{Cause}
 use Rattle.kz_model.specs.declared.grammar.Cause.TheVariants as cause
 use Rattle.kz_model.specs.declared.grammar.Refusal.{Refusal}
 use Rattle.kz_model.specs.Grammar.Form.{Draft, form_of}
-use Rattle.kz_model.specs.Grammar.Stages.{type_names, step_lines, sections_of, types_fault, names_fault, rounds_fault}
+use Rattle.kz_model.specs.Grammar.Stages.{type_names, step_lines, sections_of, types_fault, names_fault, rounds_fault, later_fault}
 use Rattle.kz_model.specs.Grammar.Spelling.{Spells, IsFirstFault}
 use Rattle.kz_grammar.specs.Declarations.{HasSoundTypes, BreaksTypesAt}
 use Rattle.kz_grammar.specs.Names.{AreNamed, IsNameFault}
@@ -61,6 +61,11 @@ pub record NameFaultsAreTrue (d : Draft) : Type 0 where
 pub record RoundFaultsAreTrue (d : Draft) : Type 0 where
   pub none : rounds_fault d ≡ None → HasSoundRounds d
   pub some : (refusal : Refusal) → rounds_fault d ≡ Some refusal → BreaksRoundsAt d refusal.line refusal.cause
+
+-- the stages after the form have no fault exactly where no sentence is broken
+abbrev pub SoundHasNoFault : Type 0
+SoundHasNoFault =
+    (d : Draft) → (later_fault d ≡ None) ↔ (HasSoundTypes d × HasSoundNames d × HasSoundRounds d)
 
 -- The first fault of a text is one of its form, or what it says breaks a sentence at that line.
 abbrev pub FirstFaultsAreTrue : Type 0
