@@ -1,4 +1,3 @@
-mod Borrowed
 mod Members
 mod Cases
 mod RowFacts

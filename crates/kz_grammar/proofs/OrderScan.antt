@@ -9,6 +9,7 @@ use Rattle.kz_model.specs.declared.grammar.Cause.TheVariants as cause
 use Rattle.kz_model.specs.declared.grammar.Refusal.{Refusal}
 use Rattle.kz_model.specs.Grammar.Form.{Section}
 use Rattle.kz_model.specs.Grammar.Stages.{left_in, none_left, order_from}
+use Rattle.kz_bundle.proofs.Choices.{equal}
 use Rattle.kz_grammar.specs.Rounds.{steps_of, breaks_in, turns_in, IsWholeOrder, IsOrderSoFar, HasStepLeft, BreaksOrder, IsOrderFault}
 use Rattle.kz_grammar.proofs.Cases.{refusal_at, test_then, test_alone}
 use Rattle.kz_grammar.proofs.TurnCounts.{breaks-turn, breaks-round, turns-newest, turns-other, turns-round, turns-later}
@@ -135,9 +136,6 @@ round_over sections last round left before h none other = record {
 abbrev pub OrderOutcome : List Section → ℕ → List OrderLine → ℕ → Option Refusal → Type 0
 OrderOutcome sections last lines at None = IsWholeOrder sections last lines
 OrderOutcome sections last lines at (Some refusal) = (refusal.cause ≡ cause.BadOrder) × IsOrderFault sections last lines at refusal.line
-
-equal : (a b : ℕ) → (a == b) ≡ true → a ≡ b
-equal a b e = grind arith
 
 not_equal : (a b : ℕ) → (a == b) ≡ false → a ≢ b
 not_equal a b e same = grind arith

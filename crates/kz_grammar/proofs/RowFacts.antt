@@ -8,33 +8,25 @@ use Rattle.kz_model.specs.Grammar.Steps.{NamedStep, Alloc, AllocZero, Free, Free
 use Rattle.kz_model.specs.Grammar.Stages.{Row, row_of, is_there, binds, with_bound, with_row, CpuLine}
 use Rattle.kz_grammar.specs.Names.{Allocates, IsBound}
 use Rattle.kz_grammar.proofs.Members.{contains_first, contains_later, contains_cases, contains_none}
-use Rattle.kz_grammar.proofs.Borrowed.{row_of-found, row_of-last}
+use Rattle.kz_bundle.proofs.EntryRows.{row_of-found, row_of-last}
+use Rattle.kz_bundle.proofs.Choices.{found_same, none_found}
 
 -- ---- what a line binds
-
-same_found : {A : Type 0} (a b : A) → Some a ≡ Some b → a ≡ b
-same_found a b e = cc
-
-no_binding : {P : Type 0} (bound : List ℕ × List ℕ) → None ≡ Some bound → P
-no_binding bound e = absurd (no bound e)
-  where
-    no : (bound : List ℕ × List ℕ) → None ≡ Some bound → ⊥
-    no bound e = cc
 
 pub is_binding : (line : CpuLine) (name of : List ℕ) → Allocates line name of → binds line.1.said ≡ Some (name, of)
 is_binding line name of is = ⊎_elim (λ e. ap binds e) (λ e. ap binds e) is
 
 by_said : (said : NamedStep) (bound : List ℕ × List ℕ) → binds said ≡ Some bound → (said ≡ Alloc bound.0 bound.1) ⊎ (said ≡ AllocZero bound.0 bound.1)
-by_said (Alloc name of) bound e = inl (ap (λ (b : List ℕ × List ℕ). Alloc b.0 b.1) (same_found (name, of) bound e))
-by_said (AllocZero name of) bound e = inr (ap (λ (b : List ℕ × List ℕ). AllocZero b.0 b.1) (same_found (name, of) bound e))
-by_said (Free name) bound e = no_binding bound e
-by_said (FreeAs name of) bound e = no_binding bound e
-by_said (Give name to) bound e = no_binding bound e
-by_said (Take name) bound e = no_binding bound e
-by_said (Read name off len) bound e = no_binding bound e
-by_said (Write name off bytes) bound e = no_binding bound e
-by_said (Flush of) bound e = no_binding bound e
-by_said (Trim of) bound e = no_binding bound e
+by_said (Alloc name of) bound e = inl (ap (λ (b : List ℕ × List ℕ). Alloc b.0 b.1) (found_same (name, of) bound e))
+by_said (AllocZero name of) bound e = inr (ap (λ (b : List ℕ × List ℕ). AllocZero b.0 b.1) (found_same (name, of) bound e))
+by_said (Free name) bound e = none_found bound e
+by_said (FreeAs name of) bound e = none_found bound e
+by_said (Give name to) bound e = none_found bound e
+by_said (Take name) bound e = none_found bound e
+by_said (Read name off len) bound e = none_found bound e
+by_said (Write name off bytes) bound e = none_found bound e
+by_said (Flush of) bound e = none_found bound e
+by_said (Trim of) bound e = none_found bound e
 
 pub is_allocation : (line : CpuLine) (bound : List ℕ × List ℕ) → binds line.1.said ≡ Some bound → Allocates line bound.0 bound.1
 is_allocation line bound e = by_said line.1.said bound e
@@ -85,7 +77,7 @@ row_from name rows row cpu (Some bound) e = by_row (row_of bound.0 rows) refl
         let told : (if bytes_eq bound.0 name then Some (new_row cpu bound) else None) ≡ Some row =
         sym (row_of-last name rows (new_row cpu bound) g) ∙ sym (ap (row_of name) (with_bound-new rows cpu bound f)) ∙ e in
         ⊎_elim
-        (λ y. inr (is_of (new_row cpu bound) (same_found (new_row cpu bound) row (sym (cond-true (bytes_eq bound.0 name) (Some (new_row cpu bound)) None y) ∙ told)) ((bytes_decides bound.0 name).0 y) refl))
+        (λ y. inr (is_of (new_row cpu bound) (found_same (new_row cpu bound) row (sym (cond-true (bytes_eq bound.0 name) (Some (new_row cpu bound)) None y) ∙ told)) ((bytes_decides bound.0 name).0 y) refl))
         (λ n. absurd (none row (sym (cond-false (bytes_eq bound.0 name) (Some (new_row cpu bound)) None n) ∙ told)))
         (cases_Bool (bytes_eq bound.0 name))
       where
