@@ -10,3 +10,20 @@ pub mod Judgements
 pub mod LaterFaults
 pub mod Causes
 pub mod TextForms
+mod Members
+mod Cases
+mod RowFacts
+mod NameRows
+mod NameScan
+mod RoundScan
+mod TurnCounts
+mod OrderScan
+mod Laws
+mod Traces
+mod BundleNames
+mod FoundTypes
+mod BraceWalk
+mod TypeScan
+mod Turned
+mod SoundNames
+mod Pigeons

@@ -1,2 +1,7 @@
 pub mod Forms
 pub mod FormLaws
+pub mod Names
+pub mod Rounds
+pub mod Declarations
+pub mod NameLaws
+pub mod BundleNames

@@ -1,14 +1,20 @@
-//! What the faults of a line mean, in terms of the forms that its place allows.
+//! Laws over the grammar of bundles, in the subject's own words.
 //!
-//! `specs/Forms.antt` has the forms as a table, and type lines as a grammar, with runs of bytes in the places of
-//! numbers. It stands apart from the reader and from the definitions that it follows.
+//! What a line may be is said by the forms of its place, as a table and as a grammar of type lines, with runs of bytes in
+//! the places of numbers (specs/Forms). What all lines together have to keep to is said by sentences over them, and not
+//! by how a reader goes over them: declarations of types (specs/Declarations), names (specs/Names), rounds and the order
+//! (specs/Rounds), and the names of a bundle by number (specs/BundleNames).
 //!
-//! It stands on `kz_model` and on the proofs of `kz_bundle`, and has no code of its own: each contract is a law.
+//! It stands on kz_model and on the proofs of kz_bundle. No code that runs stands here.
+//!
+//! Contract: each law is the contract of a function that does nothing (src/forms.rt, src/names.rt).
 #![tactic(auto)]
 
 mod forms;
+mod names;
 
 pub use forms::{
     a_line_has_one_form, first_faults_are_of_lines, forms_are_texts, lines_are_judged_by_forms,
     texts_are_judged_by_lines,
 };
+pub use names::{later_faults_are_true, what_is_spelled_is_sound};

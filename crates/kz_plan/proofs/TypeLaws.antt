@@ -13,7 +13,6 @@ use Rattle.kz_model.specs.Run.Journal.{zone_of_type, zone_row}
 use Rattle.kz_model.specs.Text.Report.{no_layout}
 use Rattle.kz_model.specs.Types.Class.{class_of, kalloc_sizes}
 use Rattle.kz_model.specs.Types.Plan.{class_at, data_classes, deals_of, general_count, shape_at, zone_among}
-use Rattle.kz_model.specs.Types.Planned.{IsPlanned}
 use Rattle.kz_class.specs.ClassLaws.{IsLeastNotBelow}
 use Rattle.kz_class.proofs.Classes.{class_is_least, none_above_last, table_from_test}
 use Rattle.kz_plan.specs.ZoneLaws.{layout_at, row_of_type, IsZoneFor, ClassesAreLeast, ElementsHoldTypes, EqualSignaturesShare, DataOfOneClassShares, SharersHaveOneClass, SharersAreOfOneKind}
@@ -72,42 +71,42 @@ module _ (b : Bundle) (is : IsValid b) where
       (zone-for b.seed (map zone_for (layouts_in b)) (deals_of (layouts_in b) b.budget b.seed) (general_count (layouts_in b) b.budget) (data_classes (layouts_in b)) (layout_at b of) (zone_row (record { zones = []; of_type = [] }) 0)
       (valid-zones b is).in_row (valid-there b is of no_layout (omega (arith, layouts-many b is))))
 
-pub zone-of-type : (b : Bundle) (plan : Plan) (of : ℕ) → IsPlanned b plan → of < length b.types → IsZoneFor (layout_at b of) (row_of_type plan of)
-zone-of-type b plan of is inside = subst (λ (plan : Plan). IsZoneFor (layout_at b of) (row_of_type plan of)) (sym is.is_plan) (row-at b is.is_valid of inside)
+pub zone-of-type : (b : Bundle) (plan : Plan) (of : ℕ) → IsValid b → plan ≡ plan_in b → of < length b.types → IsZoneFor (layout_at b of) (row_of_type plan of)
+zone-of-type b plan of is planned inside = subst (λ (plan : Plan). IsZoneFor (layout_at b of) (row_of_type plan of)) (sym planned) (row-at b is of inside)
 
 -- ---- the class of a type
 
 pub classes_are_least : ClassesAreLeast
-classes_are_least b plan of is inside =
-    class-least (layout_at b of) (IfOk-at_ok (All (λ layout. layout.size ≤ 8192)) is.is_valid.laid_out (layouts-small b.types) of no_layout (omega (arith, layouts-many b is.is_valid)))
+classes_are_least b plan of is planned inside =
+    class-least (layout_at b of) (IfOk-at_ok (All (λ layout. layout.size ≤ 8192)) is.laid_out (layouts-small b.types) of no_layout (omega (arith, layouts-many b is)))
 
 pub elements_hold_types : ElementsHoldTypes
-elements_hold_types b plan of is inside =
+elements_hold_types b plan of is planned inside =
     let element : (row_of_type plan of).shape.element ≡ slice_index kalloc_sizes (class_at (layout_at b of)) =
-    ap (λ shape. shape.element) (zone-of-type b plan of is inside).shape ∙ shape-element (class_at (layout_at b of)) in
-    omega (arith, element, (classes_are_least b plan of is inside).not_below)
+    ap (λ shape. shape.element) (zone-of-type b plan of is planned inside).shape ∙ shape-element (class_at (layout_at b of)) in
+    omega (arith, element, (classes_are_least b plan of is planned inside).not_below)
 
 -- ---- types that share a zone
 
 pub equal_signatures_share : EqualSignaturesShare
-equal_signatures_share b plan one other is one_inside other_inside class letters =
-    subst (λ (plan : Plan). zone_of_type plan one ≡ zone_of_type plan other) (sym is.is_plan)
-    (zone-at b is.is_valid one one_inside
+equal_signatures_share b plan one other is planned one_inside other_inside class letters =
+    subst (λ (plan : Plan). zone_of_type plan one ≡ zone_of_type plan other) (sym planned)
+    (zone-at b is one one_inside
     ∙ zone-same (deals_of (layouts_in b) b.budget b.seed) (general_count (layouts_in b) b.budget) (data_classes (layouts_in b)) (layout_at b one) (layout_at b other) class letters
-    ∙ sym (zone-at b is.is_valid other other_inside))
+    ∙ sym (zone-at b is other other_inside))
 
 pub data_of_one_class_shares : DataOfOneClassShares
-data_of_one_class_shares b plan one other is one_inside other_inside class one_data other_data =
-    subst (λ (plan : Plan). zone_of_type plan one ≡ zone_of_type plan other) (sym is.is_plan)
-    (zone-at b is.is_valid one one_inside
+data_of_one_class_shares b plan one other is planned one_inside other_inside class one_data other_data =
+    subst (λ (plan : Plan). zone_of_type plan one ≡ zone_of_type plan other) (sym planned)
+    (zone-at b is one one_inside
     ∙ data_zone-same (deals_of (layouts_in b) b.budget b.seed) (general_count (layouts_in b) b.budget) (data_classes (layouts_in b)) (layout_at b one) (layout_at b other) class one_data other_data
-    ∙ sym (zone-at b is.is_valid other other_inside))
+    ∙ sym (zone-at b is other other_inside))
 
 pub sharers_have_one_class : SharersHaveOneClass
-sharers_have_one_class b plan one other is one_inside other_inside same =
+sharers_have_one_class b plan one other is planned one_inside other_inside same =
     class-by_shape (class_at (layout_at b one)) (class_at (layout_at b other)) (class_at-below (layout_at b one)) (class_at-below (layout_at b other))
-    (sym (zone-of-type b plan one is one_inside).shape ∙ ap (λ zone. (zone_row plan zone).shape) same ∙ (zone-of-type b plan other is other_inside).shape)
+    (sym (zone-of-type b plan one is planned one_inside).shape ∙ ap (λ zone. (zone_row plan zone).shape) same ∙ (zone-of-type b plan other is planned other_inside).shape)
 
 pub sharers_are_of_one_kind : SharersAreOfOneKind
-sharers_are_of_one_kind b plan one other is one_inside other_inside same =
-    sym (zone-of-type b plan one is one_inside).bucket ∙ ap (λ zone. is_none (zone_row plan zone).bucket) same ∙ (zone-of-type b plan other is other_inside).bucket
+sharers_are_of_one_kind b plan one other is planned one_inside other_inside same =
+    sym (zone-of-type b plan one is planned one_inside).bucket ∙ ap (λ zone. is_none (zone_row plan zone).bucket) same ∙ (zone-of-type b plan other is planned other_inside).bucket

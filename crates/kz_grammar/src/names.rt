@@ -1,0 +1,20 @@
+//! Laws over types, names, rounds and the order, each the contract of a function that does nothing.
+ghost use Rattle.kz_grammar.specs.BundleNames.{SpelledNameRowsAreSound};
+ghost use Rattle.kz_grammar.specs.NameLaws.{SpelledIsSound, TypeFaultsAreTrue, NameFaultsAreTrue, RoundFaultsAreTrue, FirstFaultsAreTrue, SoundHasNoFault};
+ghost use Rattle.kz_model.specs.Grammar.Form.{Draft};
+
+/// In what is spelled, each name has its `a` and `z` lines on one CPU and with one type, every name of a step has one,
+/// every type is declared, and an order names each CPU as often as it has steps.
+pub fn what_is_spelled_is_sound()
+    ensures text { SpelledIsSound }
+    ensures bundle { SpelledNameRowsAreSound }
+{}
+
+/// A fault of the stages after the form comes only where its own sentence is broken, at the first line that breaks one.
+pub fn later_faults_are_true()
+    ensures types { (d : Draft) → TypeFaultsAreTrue d }
+    ensures names { (d : Draft) → NameFaultsAreTrue d }
+    ensures rounds { (d : Draft) → RoundFaultsAreTrue d }
+    ensures exact { SoundHasNoFault }
+    ensures first { FirstFaultsAreTrue }
+{}
