@@ -15,11 +15,11 @@ use Rattle.kz_model.specs.Types.Class.{class_of, kalloc_sizes}
 use Rattle.kz_model.specs.Types.Plan.{class_at, data_classes, deals_of, general_count, shape_at, zone_among}
 use Rattle.kz_class.specs.ClassLaws.{IsLeastNotBelow}
 use Rattle.kz_class.proofs.Classes.{class_is_least, none_above_last, table_from_test}
-use Rattle.kz_plan.specs.ZoneLaws.{layout_at, row_of_type, IsZoneFor, ClassesAreLeast, ElementsHoldTypes, EqualSignaturesShare, DataOfOneClassShares, SharersHaveOneClass, SharersAreOfOneKind}
+use Rattle.kz_plan.specs.ZoneLaws.{layout_at, row_of_type, ClassesAreLeast, ElementsHoldTypes, EqualSignaturesShare, DataOfOneClassShares, SharersHaveOneClass, SharersAreOfOneKind}
 use Rattle.kz_plan.proofs.Fit.{layouts-many, valid-there, valid-zones}
 use Rattle.kz_plan.proofs.Plans.{class_at-below}
 use Rattle.kz_plan.proofs.Sizes.{layouts-small}
-use Rattle.kz_plan.proofs.TypeZones.{data_zone-same, zone-for, zone-same}
+use Rattle.kz_plan.proofs.TypeZones.{IsZoneFor, data_zone-same, zone-for, zone-same}
 
 -- ---- classes
 

@@ -1,5 +1,5 @@
 -- The row of a type's zone.
-use Rattle.std.proofs.Common.{◌≡◌, ℕ, ◌+◌, ◌-◌, ◌%◌, ◌<◌, ◌≤◌, ◌==◌, true, false, cond, List, [], ◌∷◌, ◌++◌, length, map, Some, None, IsSome, unwrap_or, refl, ap, sym, ◌∙◌, subst, arith, lit<, zero-add}
+use Rattle.std.proofs.Common.{◌≡◌, ℕ, ◌+◌, ◌-◌, ◌%◌, ◌<◌, ◌≤◌, ◌==◌, true, false, cond, List, [], ◌∷◌, ◌++◌, length, map, Some, None, IsSome, unwrap_or, refl, ap, sym, ◌∙◌, subst, is_none, arith, lit<, zero-add}
 use Rattle.std.proofs.Math.ListN.{get_or, get_or-append}
 use Rattle.std.proofs.Math.Nat.{mod-lt}
 use Rattle.std.proofs.lemmas.Bool.Decides.{nat_tests}
@@ -17,9 +17,14 @@ use Rattle.kz_model.specs.Types.Layouts.{place_of}
 use Rattle.kz_model.specs.Types.Plan.{Deal, bucket_of, bucket_row, bucket_rows, class_at, data_row, data_zone, general_zone, rows_among, shape_at, zone_among}
 use Rattle.kz_model.specs.Zone.Words.{word}
 use Rattle.kz_plan.specs.Homes.{AreInRow, HasBucket, HasDataZone, HasZone}
-use Rattle.kz_plan.specs.ZoneLaws.{IsZoneFor}
 use Rattle.kz_plan.proofs.Presence.{same-number, zone-inside}
 use Rattle.kz_plan.proofs.ZoneRows.{general-many}
+
+-- the row of a zone for a type
+pub record IsZoneFor (layout : Layout) (row : ZoneRow) : Type 0 where
+  pub shape : row.shape ≡ shape_at (class_at layout)
+  pub bucket : is_none row.bucket ≡ is_data_only layout
+  pub submap : (row.submap == 4) ≡ is_data_only layout
 
 -- ---- buckets
 

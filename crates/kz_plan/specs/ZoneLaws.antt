@@ -20,12 +20,6 @@ layout_at b of = slice_index_or (layouts_in b) of no_layout
 abbrev pub row_of_type : Plan → ℕ → ZoneRow
 row_of_type plan of = zone_row plan (zone_of_type plan of)
 
--- a zone for a type
-pub record IsZoneFor (layout : Layout) (row : ZoneRow) : Type 0 where
-  pub shape : row.shape ≡ shape_at (class_at layout)
-  pub bucket : is_none row.bucket ≡ is_data_only layout
-  pub submap : (row.submap == 4) ≡ is_data_only layout
-
 -- a type's zone has the chunk of the type's class
 abbrev pub ZonesHaveTheClass : Type 0
 ZonesHaveTheClass =
