@@ -21,7 +21,7 @@ HasElements plan = All (λ row. 0 < row.shape.count) plan.zones
 
 -- ---- a fit plan
 
--- a zone's shape is that of a class, and its submap is one of the five
+-- a zone's shape is fit, and its submap is one of the five
 pub record IsFitRow (row : ZoneRow) : Type 0 where
   pub shape : IsFitGeometry row.shape
   pub submap : row.submap < 5
