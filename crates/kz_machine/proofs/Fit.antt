@@ -10,7 +10,7 @@ use Rattle.kz_model.specs.declared.record.ZoneRow.{ZoneRow}
 use Rattle.kz_model.specs.Run.Journal.{params_of}
 use Rattle.kz_model.specs.Types.Planned.{IsFitRow, IsFitPlan}
 use Rattle.kz_model.specs.Types.Planned.{HasElements}
-use Rattle.kz_model.specs.Run.Rooms.{lines_on, steps_on, room_of}
+use Rattle.kz_model.specs.Run.Rooms.{lines_on, steps_on}
 use Rattle.kz_model.specs.Grammar.Valid.{IsValid}
 use Rattle.kz_zone.specs.Room.{AreFitParams, IsFitRoom}
 use Rattle.kz_machine.specs.Lookups.{no_room}
