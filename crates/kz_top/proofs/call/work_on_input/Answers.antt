@@ -1,6 +1,5 @@
 -- What was read is what the command takes.
-use Rattle.std.proofs.Common.{◌≡◌, ℕ, List, ap, subst, sym, arith, length}
-use Rattle.std.specs.Option.{IfSome}
+use Rattle.std.proofs.Common.{arith}
 use Rattle.kz_top.proofs.Outcomes.{work_finished, taken_input}
 use Rattle.kz_top.proofs.call.work_on_input.Goals as goal
 
