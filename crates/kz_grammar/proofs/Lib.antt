@@ -15,3 +15,4 @@ mod TypeScan
 mod Turned
 mod SoundNames
 mod Pigeons
+mod LinesStand

@@ -3,3 +3,4 @@ pub mod Rounds
 pub mod Declarations
 pub mod NameLaws
 pub mod BundleNames
+pub mod LineNumbers

@@ -9,4 +9,4 @@
 
 mod names;
 
-pub use names::{later_faults_are_true, what_is_spelled_is_sound};
+pub use names::{later_faults_are_true, step_lines_stand_in_the_text, what_is_spelled_is_sound};

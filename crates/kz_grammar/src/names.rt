@@ -1,5 +1,6 @@
 //! Laws over types, names, rounds and the order, each the contract of a function that does nothing.
 ghost use Rattle.kz_grammar.specs.BundleNames.{SpelledNameRowsAreSound};
+ghost use Rattle.kz_grammar.specs.LineNumbers.{StepLinesStand};
 ghost use Rattle.kz_grammar.specs.NameLaws.{SpelledIsSound, TypeFaultsAreTrue, NameFaultsAreTrue, RoundFaultsAreTrue, FirstFaultsAreTrue, SoundHasNoFault};
 ghost use Rattle.kz_model.specs.Grammar.Form.{Draft};
 
@@ -8,6 +9,11 @@ ghost use Rattle.kz_model.specs.Grammar.Form.{Draft};
 pub fn what_is_spelled_is_sound()
     ensures text { SpelledIsSound }
     ensures bundle { SpelledNameRowsAreSound }
+{}
+
+/// What is said of the step lines of a draft is said of the text's lines: each stands there at its number.
+pub fn step_lines_stand_in_the_text()
+    ensures { StepLinesStand }
 {}
 
 /// A fault of the stages after the form comes only where its own sentence is broken, at the first line that breaks one.
