@@ -16,3 +16,4 @@ mod Turned
 mod SoundNames
 mod Pigeons
 mod LinesStand
+mod LinesSaid

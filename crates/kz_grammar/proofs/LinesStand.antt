@@ -16,15 +16,9 @@ use Rattle.kz_model.specs.Grammar.Steps.{NamedStep}
 use Rattle.kz_model.specs.Grammar.Stages.{CpuLine, of_cpu, lines_from, sections_of, step_lines}
 use Rattle.kz_model.specs.Grammar.Spelling.{Leads, Spells}
 use Rattle.kz_bundle.proofs.Walking.{leads_to, led_same, failed}
+use Rattle.kz_bundle.proofs.Scanning.{lines_from-push}
 use Rattle.kz_grammar.specs.LineNumbers.{StandsAt, StepLinesStand}
 use Rattle.kz_grammar.proofs.Members.{contains_none}
-
--- the lines of one section more
-lines_from-push : (cpu : ℕ) (sections : List Section) (section : Section) → lines_from cpu (sections ++ section ∷ []) ≡ lines_from cpu sections ++ of_cpu (cpu + length sections) section.steps
-lines_from-push cpu [] section = append-nil (of_cpu cpu section.steps) ∙ ap (λ n. of_cpu n section.steps) (omega arith)
-lines_from-push cpu (first ∷ sections) section =
-    ap (λ (rest : List CpuLine). of_cpu cpu first.steps ++ rest) (lines_from-push (cpu + 1) sections section ∙ ap (λ n. lines_from (cpu + 1) sections ++ of_cpu n section.steps) (omega arith))
-    ∙ sym (append_assoc (of_cpu cpu first.steps) (lines_from (cpu + 1) sections) (of_cpu (cpu + length (first ∷ sections)) section.steps))
 
 stands_still : (lines : List Line) (next : Line) (number : ℕ) (line : Line) → StandsAt lines number line → StandsAt (lines ++ next ∷ []) number line
 stands_still lines next number line at = record {

@@ -2,11 +2,11 @@
 //!
 //! What is spelled is judged by sentences over the text's lines themselves, and not by how a reader goes over them:
 //! declarations of types (specs/Declarations), names (specs/Names), rounds and the order (specs/Rounds), and the names of
-//! a bundle by number (specs/BundleNames). No code that runs stands here.
+//! a bundle by number (specs/BundleNames); and the lines stand in the text (specs/LineNumbers). No code that runs stands here.
 //!
 //! Contract: each law is the contract of a function that does nothing (src/names.rt).
 #![tactic(auto)]
 
 mod names;
 
-pub use names::{later_faults_are_true, step_lines_stand_in_the_text, what_is_spelled_is_sound};
+pub use names::{later_faults_are_true, lines_stand_in_the_text, what_is_spelled_is_sound};
