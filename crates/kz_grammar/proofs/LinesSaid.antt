@@ -1,5 +1,5 @@
 -- The text's lines by what they say: type lines at their places, and all step lines.
-use Rattle.std.proofs.Common.{◌≡◌, ⊎_elim, ℕ, zero, suc, ◌+◌, ◌-◌, ◌<◌, List, [], ◌∷◌, ◌++◌, length, map, replicate, Option, Some, None, refl, ap, sym, ◌∙◌, subst, arith, length-append}
+use Rattle.std.proofs.Common.{◌≡◌, ⊎_elim, ℕ, zero, suc, ◌+◌, ◌-◌, List, [], ◌∷◌, ◌++◌, length, map, replicate, Option, Some, None, refl, ap, sym, ◌∙◌, subst, arith, length-append}
 use Rattle.std.specs.Prelude.{Contains}
 use Rattle.std.proofs.lemmas.List.{append_assoc, map-append, length-map}
 use Rattle.std.proofs.lemmas.List.Elements.{Contains-append_left, Contains-append_right, Contains-append_cases}
@@ -9,13 +9,12 @@ use Rattle.kz_model.specs.declared.bundle.OrderLine.TheVariants as turn
 use Rattle.kz_model.specs.declared.grammar.Header.{Header}
 use Rattle.kz_model.specs.declared.grammar.Place.TheVariants as place
 use Rattle.kz_model.specs.Grammar.Steps.{NamedStep}
-use Rattle.kz_model.specs.Grammar.Form.{Line, Machine, SeedOf, Cpus, Frames, Pages, Budget, Magazine, Depot, Declares, Opens, Does, Break, Orders, Turns, Ends, StepLine, Section, Draft, empty_draft}
-use Rattle.kz_model.specs.Grammar.Stages.{CpuLine, of_cpu, lines_from, sections_of, step_lines}
+use Rattle.kz_model.specs.Grammar.Form.{Line, Machine, SeedOf, Cpus, Frames, Pages, Budget, Magazine, Depot, Declares, Opens, Does, Break, Orders, Turns, Ends, StepLine, Section, empty_draft}
+use Rattle.kz_model.specs.Grammar.Stages.{CpuLine, of_cpu, lines_from, sections_of}
 use Rattle.kz_model.specs.Grammar.Spelling.{Spells, turn_of, order_lines}
 use Rattle.kz_bundle.proofs.NamedStepLines.{steps_said, section_said, sections_said, header_said, draft_said, said_is}
-use Rattle.kz_grammar.specs.LineNumbers.{StandsAt, TypeLinesStand, NoStepLineIsMissing}
+use Rattle.kz_grammar.specs.LineNumbers.{TypeLinesStand, NoStepLineIsMissing}
 use Rattle.kz_grammar.proofs.Members.{contains_first, contains_later, contains_cases, contains_none}
-use Rattle.kz_grammar.proofs.Traces.{contains_mapped, contains_image}
 
 lines_are : (bytes : List ℕ) (b : _) (spells : Spells bytes b) → draft_said place.Ended spells.said ≡ spells.lines
 lines_are bytes b spells =

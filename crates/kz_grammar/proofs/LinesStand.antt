@@ -1,20 +1,18 @@
 -- Each step line of a draft stands in the text at its number.
-use Rattle.std.proofs.Common.{◌≡◌, ⊎_elim, ℕ, zero, suc, ◌+◌, ◌<◌, ◌==◌, Bool, true, false, if◌then◌else◌, List, [], ◌∷◌, ◌++◌, length, map, Option, Some, None, Result, Ok, Err, refl, ap, sym, ◌∙◌, subst, arith, length-append}
+use Rattle.std.proofs.Common.{◌≡◌, ⊎_elim, ℕ, ◌+◌, ◌==◌, true, false, if◌then◌else◌, List, [], ◌∷◌, ◌++◌, length, Some, Ok, Err, refl, ap, sym, ◌∙◌, subst, arith, length-append}
 use Rattle.std.specs.Prelude.{Contains}
 use Rattle.std.proofs.lemmas.List.{append_assoc, append-nil, map-append}
-use Rattle.std.proofs.lemmas.List.Elements.{Contains-append_left, Contains-append_right, Contains-append_cases, Contains-push_cases}
-use Rattle.kz_model.specs.declared.bundle.OrderLine.{OrderLine}
+use Rattle.std.proofs.lemmas.List.Elements.{Contains-append_left, Contains-push_cases}
 use Rattle.kz_model.specs.declared.bundle.OrderLine.TheVariants as turn
 use Rattle.kz_model.specs.declared.bundle.TypeDecl.{TypeDecl}
 use Rattle.kz_model.specs.declared.grammar.Place.{Place}
 use Rattle.kz_model.specs.declared.grammar.Place.TheVariants as place
-use Rattle.kz_model.specs.declared.grammar.Cause.{Cause}
 use Rattle.kz_model.specs.declared.grammar.Cause.TheVariants as cause
 use Rattle.kz_model.specs.declared.grammar.Counted.TheVariants as counted
 use Rattle.kz_model.specs.Grammar.Form.{Line, Machine, SeedOf, Cpus, Frames, Pages, Budget, Magazine, Depot, Declares, Opens, Does, Break, Orders, Turns, Ends, StepLine, Section, Draft, empty_draft, new_section, with_header, with_type, with_section, with_step, with_turn, with_break, with_line}
 use Rattle.kz_model.specs.Grammar.Steps.{NamedStep}
-use Rattle.kz_model.specs.Grammar.Stages.{CpuLine, of_cpu, lines_from, sections_of, step_lines}
-use Rattle.kz_model.specs.Grammar.Spelling.{Leads, Spells}
+use Rattle.kz_model.specs.Grammar.Stages.{CpuLine, of_cpu, lines_from, sections_of}
+use Rattle.kz_model.specs.Grammar.Spelling.{Leads}
 use Rattle.kz_bundle.proofs.Walking.{leads_to, led_same, failed}
 use Rattle.kz_bundle.proofs.Scanning.{lines_from-push}
 use Rattle.kz_grammar.specs.LineNumbers.{StandsAt, StepLinesStand}
