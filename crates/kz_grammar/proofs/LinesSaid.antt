@@ -1,8 +1,8 @@
 -- The text's lines by what they say: type lines at their places, and all step lines.
 use Rattle.std.proofs.Common.{◌≡◌, ⊎_elim, ℕ, zero, suc, ◌+◌, ◌-◌, List, [], ◌∷◌, ◌++◌, length, map, replicate, Option, Some, None, refl, ap, sym, ◌∙◌, subst, arith, length-append}
-use Rattle.std.specs.Prelude.{Contains}
+use Rattle.std.specs.Prelude.{All, Contains}
 use Rattle.std.proofs.lemmas.List.{append_assoc, map-append, length-map}
-use Rattle.std.proofs.lemmas.List.Elements.{Contains-append_left, Contains-append_right, Contains-append_cases}
+use Rattle.std.proofs.lemmas.List.Elements.{All-cons, All-append, All-replicate, Contains-append_left, Contains-append_right, Contains-append_cases}
 use Rattle.kz_model.specs.declared.bundle.TypeDecl.{TypeDecl}
 use Rattle.kz_model.specs.declared.bundle.OrderLine.{OrderLine}
 use Rattle.kz_model.specs.declared.bundle.OrderLine.TheVariants as turn
@@ -13,7 +13,7 @@ use Rattle.kz_model.specs.Grammar.Form.{Line, Machine, SeedOf, Cpus, Frames, Pag
 use Rattle.kz_model.specs.Grammar.Stages.{CpuLine, of_cpu, lines_from, sections_of}
 use Rattle.kz_model.specs.Grammar.Spelling.{Spells, turn_of, order_lines}
 use Rattle.kz_bundle.proofs.NamedStepLines.{steps_said, section_said, sections_said, header_said, draft_said, said_is}
-use Rattle.kz_grammar.specs.LineNumbers.{TypeLinesStand, NoStepLineIsMissing}
+use Rattle.kz_grammar.specs.LineNumbers.{TypeLinesStand, NoStepLineIsMissing, steps_said_in, IsOfSection, SectionsStand}
 use Rattle.kz_grammar.proofs.Members.{contains_first, contains_later, contains_cases, contains_none}
 
 lines_are : (bytes : List ℕ) (b : _) (spells : Spells bytes b) → draft_said place.Ended spells.said ≡ spells.lines
@@ -140,3 +140,65 @@ no_step_line_is_missing bytes b spells said there =
     (Contains-append_cases (first ++ sections) (order_lines d.order) (Does said) rest))
     (λ last. absurd (none_last said last))
     (Contains-append_cases (first ++ sections ++ order_lines d.order) (Ends ∷ []) (Does said) all)
+
+-- ---- sections
+
+breaks_say_none : (n : ℕ) (lines : List Line) → steps_said_in (replicate n Break ++ lines) ≡ steps_said_in lines
+breaks_say_none zero lines = refl
+breaks_say_none (suc n) lines = breaks_say_none n lines
+
+last_breaks : (n : ℕ) → steps_said_in (replicate n Break) ≡ []
+last_breaks zero = refl
+last_breaks (suc n) = last_breaks n
+
+body_says : (last round : ℕ) (steps : List StepLine) → steps_said_in (steps_said last round steps) ≡ map (λ (step : StepLine). step.said) steps
+body_says last round [] = last_breaks (last - round)
+body_says last round (step ∷ steps) =
+    breaks_say_none (step.round - round) (Does step.said ∷ steps_said last step.round steps) ∙ ap (λ (more : List NamedStep). step.said ∷ more) (body_says last step.round steps)
+
+body_is : (last round : ℕ) (steps : List StepLine) → All IsOfSection (steps_said last round steps)
+body_is last round [] = All-replicate IsOfSection (last - round) Break tt
+body_is last round (step ∷ steps) =
+    All-append IsOfSection (replicate (step.round - round) Break) (Does step.said ∷ steps_said last step.round steps) (All-replicate IsOfSection (step.round - round) Break tt)
+    (All-cons IsOfSection (Does step.said) (steps_said last step.round steps) tt (body_is last step.round steps))
+
+sections_parts : (cpu : ℕ) (before : List Section) (section : Section) (after : List Section) →
+    sections_said cpu (before ++ section ∷ after) ≡ sections_said cpu before ++ Opens (cpu + length before) ∷ (section_said section ++ sections_said (cpu + length before + 1) after)
+sections_parts cpu [] section after = ap (λ n. Opens n ∷ (section_said section ++ sections_said (n + 1) after)) (same cpu)
+  where
+    same : (n : ℕ) → n ≡ n + 0
+    same n = omega arith
+sections_parts cpu (first ∷ before) section after =
+    ap (λ (more : List Line). Opens cpu ∷ (section_said first ++ more))
+    (sections_parts (cpu + 1) before section after ∙ ap (λ n. sections_said (cpu + 1) before ++ Opens n ∷ (section_said section ++ sections_said (n + 1) after)) (next cpu (length before)))
+    ∙ ap (λ (more : List Line). Opens cpu ∷ more) (sym (append_assoc (section_said first) (sections_said (cpu + 1) before) (Opens (cpu + suc (length before)) ∷ (section_said section ++ sections_said (cpu + suc (length before) + 1) after))))
+  where
+    next : (n m : ℕ) → n + 1 + m ≡ n + suc m
+    next n m = omega arith
+
+pub sections_stand : SectionsStand
+sections_stand bytes b spells before section after parts =
+    let d = spells.said in
+    let first : List Line = header_said d.header ++ map Declares d.types in
+    let order : List Line = order_lines d.order in
+    let later : List Line = sections_said (length before + 1) after in
+    record {
+      before = first ++ sections_said 0 before;
+      body = section_said section;
+      after = later ++ order ++ Ends ∷ [];
+      parts = sym (lines_are bytes b spells)
+          ∙ ap (λ (sections : List Line). first ++ sections ++ order ++ Ends ∷ []) (ap (sections_said 0) parts ∙ sections_parts 0 before section after
+          ∙ ap (λ n. sections_said 0 before ++ Opens n ∷ (section_said section ++ sections_said (n + 1) after)) (none_first (length before)))
+          ∙ ap (λ (head : List Line). head ++ order ++ Ends ∷ []) (sym (append_assoc first (sections_said 0 before) (Opens (length before) ∷ (section_said section ++ later))))
+          ∙ regrouped (first ++ sections_said 0 before) (Opens (length before)) (section_said section) later order (Ends ∷ []);
+      only = body_is section.breaks 0 section.steps;
+      steps = body_says section.breaks 0 section.steps;
+    }
+  where
+    none_first : (n : ℕ) → 0 + n ≡ n
+    none_first n = omega arith
+
+    regrouped : (x : List Line) (line : Line) (y s o e : List Line) → x ++ line ∷ (y ++ s) ++ o ++ e ≡ x ++ line ∷ (y ++ (s ++ o ++ e))
+    regrouped x line y s o e =
+        ap (λ (l : List Line). l ++ e) (append_assoc x (line ∷ (y ++ s)) o) ∙ append_assoc x (line ∷ (y ++ s) ++ o) e
+        ∙ ap (λ (l : List Line). x ++ line ∷ l) (ap (λ (l : List Line). l ++ e) (append_assoc y s o) ∙ append_assoc y (s ++ o) e)
