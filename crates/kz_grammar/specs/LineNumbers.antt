@@ -22,7 +22,8 @@ StepLinesStand = (bytes : List ℕ) (b : Bundle) (spells : Spells bytes b) (line
 -- each declaration is the type line at its place, the first of which has number 9
 abbrev pub TypeLinesStand : Type 0
 TypeLinesStand =
-    (bytes : List ℕ) (b : Bundle) (spells : Spells bytes b) (before : List TypeDecl) (decl : TypeDecl) (after : List TypeDecl) →
+    (bytes : List ℕ) (b : Bundle) (spells : Spells bytes b) →
+    (before : List TypeDecl) (decl : TypeDecl) (after : List TypeDecl) →
     spells.said.types ≡ before ++ decl ∷ after → StandsAt spells.lines (9 + length before) (Declares decl)
 
 -- each step line of the text is one of those that are spoken of
@@ -57,5 +58,6 @@ pub record SectionStands (lines : List Line) (cpu : ℕ) (section : Section) : T
 -- the sections of what is spelled are those of its CPUs in their order
 abbrev pub SectionsStand : Type 0
 SectionsStand =
-    (bytes : List ℕ) (b : Bundle) (spells : Spells bytes b) (before : List Section) (section : Section) (after : List Section) →
+    (bytes : List ℕ) (b : Bundle) (spells : Spells bytes b) →
+    (before : List Section) (section : Section) (after : List Section) →
     sections_of spells.said ≡ before ++ section ∷ after → SectionStands spells.lines (length before) section

@@ -1,4 +1,4 @@
--- What holds of the types, the names, the rounds and the order of what is spelled, and what a fault of these stages says.
+-- What holds of the types, the names, the rounds and the order of what is spelled, and what a fault there says.
 use Rattle.std.specs.Prelude.{◌≡◌, ◌↔◌, ◌⊎◌, ℕ, List, Some, None, Ok, Err}
 use Rattle.std.specs.Option.{IfSome}
 use Rattle.kz_model.specs.declared.bundle.Bundle.{Bundle}
@@ -34,8 +34,8 @@ BreaksRoundsAt d line cause.BadOrder = HaveEquallyManyBreaks (sections_of d) ×
     × IsOrderFault (sections_of d) d.section.breaks turns d.order_at line)
 BreaksRoundsAt d line other = ⊥
 
--- What a fault of the later stages says: of types; of names, where no type has a fault; or of rounds and the order, where
--- neither has one.
+-- What a fault of the later stages says: of types; of names, where no type has a fault; or of rounds and the order,
+-- where neither has one.
 abbrev pub IsLaterFault : Draft → ℕ → Cause → Type 0
 IsLaterFault d line cause =
     BreaksTypesAt d line cause
