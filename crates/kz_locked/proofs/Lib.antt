@@ -1,3 +1,4 @@
+pub mod Grants
 pub mod Shares
 pub mod Since
 pub mod Visits
