@@ -1,3 +1,4 @@
+pub mod Backs
 pub mod Grants
 pub mod Shares
 pub mod Since
