@@ -8,7 +8,9 @@
 #![tactic(auto)]
 
 mod laws;
+mod readying;
 mod supply;
 
 pub use laws::{settlings_are_stays, visits_are_stays};
+pub use readying::{hand_back, make_ready};
 pub use supply::{LockedSupply, Share, SupplyStart, ask_for_chunk, ask_for_frames, give_back};

@@ -3,7 +3,6 @@
 
 #[cfg(test)]
 mod nested;
-#[cfg(test)]
-mod seats;
+pub mod seats;
 #[cfg(test)]
 mod tally;
