@@ -1,3 +1,4 @@
 pub mod Shares
 pub mod Since
 pub mod Visits
+pub mod MoreStays

@@ -1,28 +1,25 @@
 -- A visit to a book, and a settled one, is a stay.
-use Rattle.std.proofs.Common.{◌≡◌, ℕ, zero, suc, ◌+◌, ◌-◌, ◌<◌, ◌≤◌, ◌==◌, Bool, true, false, List, [], ◌∷◌, ◌++◌, length, map, replicate, Option, None, Some, refl, ap, sym, ◌∙◌, subst, arith, append_assoc, length-append}
+use Rattle.std.proofs.Common.{◌≡◌, ℕ, zero, suc, ◌-◌, ◌<◌, ◌≤◌, ◌==◌, Bool, true, false, List, [], ◌∷◌, ◌++◌, length, map, replicate, Some, refl, ap, sym, ◌∙◌, subst, arith, length-append}
 use Rattle.std.specs.List.{flat_map}
-use Rattle.std.specs.Option.{option_map_or}
 use Rattle.std.proofs.lemmas.Grind.{flat_map-append}
-use Rattle.std.proofs.lemmas.List.{append-nil, append_cancel_left, map-append, length-map, length-set, nil_from_length, get_or-set_same}
+use Rattle.std.proofs.lemmas.List.{append-nil, append_cancel_left, map-append, length-set, nil_from_length, get_or-set_same}
 use Rattle.kz_model.specs.declared.record.ZoneParams.{ZoneParams}
 use Rattle.kz_model.specs.declared.step.Reply.{Reply}
 use Rattle.kz_model.specs.declared.step.Step.{Step}
 use Rattle.kz_model.specs.declared.supply.Ask.{Ask}
 use Rattle.kz_model.specs.declared.supply.Answer.{Answer}
-use Rattle.kz_model.specs.declared.supply.SupplyEntry.{SupplyEntry}
 use Rattle.kz_model.specs.Zone.State.{CpuPart, ZoneState, no_cpu_part, opening, cpu_part}
 use Rattle.kz_model.specs.Zone.Rules.{needs_visit, asks_of}
 use Rattle.kz_model.specs.Zone.Alone.{Course, course, alone, all_used}
 use Rattle.kz_model.specs.Zone.Local.{local_answer, with_cpu_part}
 use Rattle.kz_model.specs.Zone.Late.{NeedNone, states_late, by_cpu}
 use Rattle.kz_model.specs.Run.Runs.{needs_along}
-use Rattle.kz_model.proofs.Courses.{joined}
 use Rattle.kz_model.proofs.MoreAnswers.{with_more, course-more}
 use Rattle.kz_supply.specs.Exchange.{Exchange, ask_of, answer_of, entries_of}
 use Rattle.kz_book.specs.Book.{Book, History, KeepsHistory, params_of}
 use Rattle.kz_book.specs.Visits.{Extends, Settles, own_in, replies_late}
 use Rattle.kz_laws.specs.declared.stays.Stay.{Stay}
-use Rattle.kz_laws.specs.Stays.{IsStay, asks_in, answers_in}
+use Rattle.kz_laws.specs.Stays.{asks_in, answers_in}
 use Rattle.kz_laws.proofs.OrderJournals.{course_split, needs_along-append}
 use Rattle.kz_laws.proofs.WholeCourses.{chained, chosen}
 use Rattle.kz_locked.specs.Visits.{LeadsTo, stay_of_visit, stay_of_settling}

@@ -1,3 +1,5 @@
 pub mod Shares
 pub mod Supply
 pub mod Visits
+pub mod TurnNames
+pub mod Zone

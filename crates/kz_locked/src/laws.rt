@@ -1,5 +1,6 @@
 //! Laws over stays and books, each the contract of a function that does nothing.
 ghost use Rattle.kz_locked.specs.Visits.{VisitsAreStays, SettlingsAreStays};
+ghost use Rattle.kz_locked.specs.Zone.{OneMoreStayIsKept, PassesKnowParts};
 
 /// A visit to a book is a stay.
 pub fn visits_are_stays()
@@ -9,4 +10,14 @@ pub fn visits_are_stays()
 /// A settled visit is one too.
 pub fn settlings_are_stays()
     ensures { SettlingsAreStays }
+{}
+
+/// A locked zone stays one with one more stay.
+pub fn one_more_stay_is_kept()
+    ensures { OneMoreStayIsKept }
+{}
+
+/// What a pass of a zone's turn knows is what its CPU has of the zone.
+pub fn passes_know_parts()
+    ensures { PassesKnowParts }
 {}

@@ -1,14 +1,18 @@
-//! What stands behind the turns while CPUs run as threads: the supply, which all zones share.
+//! What stands behind the turns while CPUs run as threads: the supply, which all zones share, and each zone.
 //!
 //! A zone asks in a stay at the supply's turn, by the pass whose number is the zone's. It stands on kz_supply and
 //! kz_turn, and the program doesn't use it yet.
 //!
 //! Contract: a zone that knows its own entries and its share of the supply may ask, whatever other zones did meanwhile;
-//! the answer is the supply's, and the pass knows the entry (`ask_for_chunk`, `ask_for_frames`, `give_back`).
+//! the answer is the supply's, and the pass knows the entry (`ask_for_chunk`, `ask_for_frames`, `give_back`). A zone behind
+//! its turn tells the stays that led to it (`LockedZone`); it still does after one more, and the pass of a CPU knows what
+//! the CPU has there (`one_more_stay_is_kept`, `passes_know_parts`).
 #![tactic(auto)]
 
 mod laws;
 mod supply;
+mod zone;
 
-pub use laws::{settlings_are_stays, visits_are_stays};
+pub use laws::{one_more_stay_is_kept, passes_know_parts, settlings_are_stays, visits_are_stays};
 pub use supply::{LockedSupply, Share, SupplyStart, ask_for_chunk, ask_for_frames, give_back};
+pub use zone::{LockedZone, TurnName, ZoneStart};

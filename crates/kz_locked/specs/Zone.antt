@@ -1,0 +1,142 @@
+-- A zone behind its turn: what it keeps, its base, its journal, and what a CPU's pass knows of it.
+use Rattle.std.specs.Prelude.{◌≡◌, ℕ, ◌<◌, ◌≤◌, List, [], ◌∷◌, ◌++◌, length, sum, map, take, drop}
+use Rattle.std.specs.Option.{unwrap_or}
+use Rattle.kz_model.specs.declared.bundle.Bundle.{Bundle}
+use Rattle.kz_model.specs.declared.record.Plan.{Plan}
+use Rattle.kz_model.specs.declared.record.Visit.{Visit}
+use Rattle.kz_model.specs.declared.step.Step.{Step}
+use Rattle.kz_model.specs.declared.supply.SupplyEntry.{SupplyEntry}
+use Rattle.kz_model.specs.Run.Journal.{params_of, steps_of, carried}
+use Rattle.kz_model.specs.Zone.Alone.{Course, alone}
+use Rattle.kz_model.specs.Zone.State.{CpuPart, ZoneState, opening, cpu_part}
+use Rattle.kz_model.specs.Zone.Whole.{IsWhole}
+use Rattle.kz_supply.specs.Ready.{Ready, NoAnswer}
+use Rattle.kz_zone.specs.Room.{IsFitRoom}
+use Rattle.kz_zone.specs.Zone.{StandsFor}
+use Rattle.kz_book.specs.Book.{Book, History, KeepsHistory}
+use Rattle.kz_turn.specs.Journal.{entries_of}
+use Rattle.kz_turn.specs.Passes.{PassView}
+use Rattle.kz_laws.specs.declared.stays.Stay.{Stay}
+use Rattle.kz_laws.specs.Stays.{AreStays, HaveSteps, visit_in, visits_in, steps_in, entries_in, answers_in, stays_told, stays_by, part_left}
+use Rattle.kz_locked.specs.declared.supply.SupplyStart.{SupplyStart}
+use Rattle.kz_locked.specs.declared.zone.ZoneStart.{ZoneStart}
+use Rattle.kz_locked.specs.Supply.{own_log}
+use Rattle.kz_locked.specs.Visits.{LeadsTo}
+
+-- the pass of the supply's turn that a zone keeps
+abbrev pub SupplyPass : Type 0
+SupplyPass = PassView SupplyStart SupplyEntry
+
+-- the steps that a visit carries after earlier ones
+abbrev pub steps_told : Bundle → Plan → ℕ → List Visit → Visit → List Step
+steps_told b plan zone earlier v =
+    take v.count (drop (carried v.cpu v.round earlier) (steps_of b plan v.cpu zone v.round))
+
+-- the stays that a zone's visits and the entries of its pass tell
+abbrev pub stays_of : Bundle → Plan → List Visit → SupplyPass → List Stay
+stays_of b plan visits pass =
+    let p = params_of b plan pass.number in
+    stays_told p (steps_told b plan pass.number) (opening p) [] visits (own_log pass)
+
+-- each stay with the number of its CPU's seat
+abbrev pub by_seat : List Stay → List (ℕ × Stay)
+by_seat stays = map (λ s. (s.cpu, s)) stays
+
+-- the stays since so many visits were made
+abbrev pub stays_since : ℕ → Bundle → Plan → List Visit → SupplyPass → List (ℕ × Stay)
+stays_since opened b plan visits pass = by_seat (drop opened (stays_of b plan visits pass))
+
+-- the zone as it was when so many visits were made
+abbrev pub zone_start : ℕ → Bundle → Plan → Book → SupplyPass → ZoneStart
+zone_start opened b plan book pass =
+    record {
+      turn = pass.name;
+      supply = pass.base;
+      zone = pass.number;
+      bundle = b;
+      plan = plan;
+      room = book.room;
+      stays =
+          take opened (stays_of b plan book.visits pass);
+    }
+
+-- What a zone behind its turn keeps. Its visits, and the entries that its pass made, are those of stays from the zone's
+-- opening, each of the steps that its visit carries. The zone stands for the state that these lead to, and no answer
+-- and no frames wait in its pages.
+pub record IsLockedZone (b : Bundle) (plan : Plan) (book : Book) (pages : Ready) (pass : SupplyPass) : Type 0 where
+  pub zone : pass.number < length plan.zones
+  pub params : book.room.params ≡ params_of b plan pass.number
+  pub zone_params : book.zone.params ≡ params_of b plan pass.number
+  pub pages_params : pages.params ≡ params_of b plan pass.number
+  pub room : IsFitRoom book.room
+  pub few : length book.visits ≤ sum book.room.steps
+  pub idle : pages.ready ≡ NoAnswer
+  pub none_wait : pages.waiting ≡ []
+  pub stays : List Stay
+  pub end : ZoneState
+  pub are : AreStays (params_of b plan pass.number) (opening (params_of b plan pass.number)) stays end
+  pub steps : HaveSteps (steps_told b plan pass.number) [] stays
+  pub visits : book.visits ≡ visits_in stays
+  pub entries : own_log pass ≡ entries_in stays
+  pub shows : StandsFor book.zone end.shared
+  pub whole : IsWhole (params_of b plan pass.number) end
+
+-- the history that a zone's visits and the entries of its pass tell
+abbrev pub history_told : Bundle → Plan → List Visit → SupplyPass → History
+history_told b plan visits pass =
+    let p = params_of b plan pass.number in
+    let steps = steps_in (stays_of b plan visits pass) in
+    let answers = answers_in (own_log pass) in
+    let nothing : Course = record { replies = []; asks = []; before = []; end = opening p; left = [] } in
+    record { steps = steps; answers = answers; made = unwrap_or (alone p steps answers) nothing }
+
+-- One more stay in a locked zone: from each history of the book to one of the book after it, which has one more visit.
+-- The pass made the stay's entries, and the pages are idle again.
+pub record GoesOn (b : Bundle) (plan : Plan) (old new : Book) (pages : Ready) (pass after : SupplyPass)
+    (s : Stay) : Type 0 where
+  pub pass_is : after ≡ record pass { own = pass.own ++ s.entries }
+  pub pages_params : pages.params ≡ params_of b plan pass.number
+  pub idle : pages.ready ≡ NoAnswer
+  pub none_wait : pages.waiting ≡ []
+  pub room : new.room ≡ old.room
+  pub visits : new.visits ≡ old.visits ++ visit_in s ∷ []
+  pub few : length new.visits ≤ sum new.room.steps
+  pub steps : steps_told b plan pass.number old.visits (visit_in s) ≡ s.steps
+  pub leads : (before : History) → KeepsHistory old before →
+      (last : History) × KeepsHistory new last × LeadsTo (params_of b plan pass.number) before last s
+
+-- A locked zone stays one with one more stay, and tells one more.
+pub record HasOneMore (b : Bundle) (plan : Plan) (old new : Book) (pages : Ready) (pass after : SupplyPass)
+    (s : Stay) : Type 0 where
+  pub kept : IsLockedZone b plan new pages after
+  pub stays : stays_of b plan new.visits after ≡ stays_of b plan old.visits pass ++ s ∷ []
+
+abbrev pub OneMoreStayIsKept : Type 0
+OneMoreStayIsKept =
+    (b : Bundle) (plan : Plan) (old new : Book) (idle pages : Ready) (pass after : SupplyPass) (s : Stay) →
+    IsLockedZone b plan old idle pass → GoesOn b plan old new pages pass after s →
+    HasOneMore b plan old new pages pass after s
+
+-- ---- what a CPU's pass knows
+
+-- what the CPU has of the zone after the stays that its pass knows
+abbrev pub part_known : PassView ZoneStart Stay → CpuPart
+part_known pass =
+    let p = params_of pass.base.bundle pass.base.plan pass.base.zone in
+    part_left (part_left (cpu_part (opening p) pass.number) (stays_by pass.number pass.base.stays)) pass.own
+
+-- what a CPU that has the zone to itself finds in it
+pub record FindsPart (b : Bundle) (plan : Plan) (book : Book) (held : SupplyPass)
+    (pass : PassView ZoneStart Stay) : Type 0 where
+  pub keeps : KeepsHistory book (history_told b plan book.visits held)
+  pub part : cpu_part (history_told b plan book.visits held).made.end pass.number ≡ part_known pass
+
+-- The book of a locked zone keeps the history that is told, in which the CPU has just what its pass knows, whatever
+-- other CPUs did.
+abbrev pub PassesKnowParts : Type 0
+PassesKnowParts =
+    (opened : ℕ) (b : Bundle) (plan : Plan) (book : Book) (pages : Ready) (held : SupplyPass)
+    (pass : PassView ZoneStart Stay) → IsLockedZone b plan book pages held →
+    zone_start opened b plan book held ≡ pass.base →
+    entries_of pass.number (stays_since opened b plan book.visits held) ≡ pass.own →
+    FindsPart b plan book held pass
