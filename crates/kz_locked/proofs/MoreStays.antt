@@ -1,5 +1,5 @@
 -- One more stay in a locked zone, and what a CPU's pass knows of it.
-use Rattle.std.proofs.Common.{◌≡◌, ℕ, ◌^◌, ◌<◌, ◌≤◌, ◌==◌, true, false, if◌then◌else◌, List, [], ◌∷◌, ◌++◌, length, take, drop, map, Option, Some, refl, ap, sym, ◌∙◌, subst, arith, append_assoc}
+use Rattle.std.proofs.Common.{◌≡◌, ℕ, ◌+◌, ◌^◌, ◌<◌, ◌≤◌, ◌==◌, true, false, if◌then◌else◌, List, [], ◌∷◌, ◌++◌, length, take, drop, map, Option, Some, refl, ap, sym, ◌∙◌, subst, arith, append_assoc, length-append}
 use Rattle.std.proofs.Math.Logic.{∥∥₁_elim}
 use Rattle.std.proofs.Props.{props}
 use Rattle.std.specs.Option.{unwrap_or}
@@ -12,16 +12,21 @@ use Rattle.kz_model.specs.declared.record.Plan.{Plan}
 use Rattle.kz_model.specs.declared.record.Room.{Room}
 use Rattle.kz_model.specs.declared.record.Visit.{Visit}
 use Rattle.kz_model.specs.declared.record.ZoneParams.{ZoneParams}
+use Rattle.kz_model.specs.declared.step.Reply.{Reply}
 use Rattle.kz_model.specs.declared.step.Step.{Step}
 use Rattle.kz_model.specs.declared.supply.SupplyEntry.{SupplyEntry}
 use Rattle.kz_model.specs.Run.Journal.{log_at, params_of}
 use Rattle.kz_model.specs.Zone.Alone.{Course, alone, course}
 use Rattle.kz_model.specs.Zone.State.{CpuPart, ZoneState, opening, cpu_part}
+use Rattle.kz_model.specs.Zone.Late.{NeedNone}
+use Rattle.kz_model.specs.Zone.Rules.{needs_visit}
 use Rattle.kz_model.specs.Zone.Whole.{IsWhole}
+use Rattle.kz_supply.specs.Exchange.{Exchange}
 use Rattle.kz_supply.specs.Ready.{Ready}
 use Rattle.kz_zone.specs.Room.{IsFitRoom}
 use Rattle.kz_zone.specs.Zone.{StandsFor}
 use Rattle.kz_book.specs.Book.{Book, History, KeepsHistory}
+use Rattle.kz_book.specs.Visits.{Extends, own_in}
 use Rattle.kz_turn.specs.Journal.{entries_of}
 use Rattle.kz_turn.specs.Passes.{PassView}
 use Rattle.kz_laws.specs.declared.stays.Stay.{Stay}
@@ -31,7 +36,9 @@ use Rattle.kz_laws.proofs.StayCourses.{stays_course}
 use Rattle.kz_laws.proofs.StayParts.{stays_leave, told}
 use Rattle.kz_locked.specs.declared.zone.ZoneStart.{ZoneStart}
 use Rattle.kz_locked.specs.Supply.{own_log}
-use Rattle.kz_locked.specs.Zone.{SupplyPass, IsLockedZone, GoesOn, HasOneMore, FindsPart, history_told, steps_told, stays_of, stays_since, by_seat, zone_start}
+use Rattle.kz_locked.specs.Zone.{SupplyPass, IsLockedZone, GoesOn, HasOneMore, FindsPart, history_told, steps_told, stays_of, stays_since, by_seat, zone_start, HasVisit, stay_at}
+use Rattle.kz_locked.specs.Visits.{LeadsTo, stay_of_visit}
+use Rattle.kz_locked.proofs.Visits.{visits_are_stays}
 
 -- ---- a stay behind others
 
@@ -100,15 +107,15 @@ module _ (b : Bundle) (plan : Plan) (old new : Book) (idle pages : Ready) (pass 
   more_kept : GoesOn b plan old new pages pass later s → IsLockedZone b plan new pages later
   more_kept on =
       let h = history_of b plan old idle pass kept in
-      let leads = on.leads h.history h.keeps in
-      let last = leads.0 in
-      let here = leads.2 in
-      let is : IsStay p kept.end s here.made = subst (λ (state : ZoneState). IsStay p state s here.made) h.ends here.is in
+      let last = on.last in
+      let here = on.leads in
+      let ends : (history_told b plan old.visits pass).made.end ≡ kept.end = ap (λ (j : History). j.made.end) h.is_told ∙ h.ends in
+      let is : IsStay p kept.end s here.made = subst (λ (state : ZoneState). IsStay p state s here.made) ends here.is in
       let same : new.room.params ≡ p = ap (λ (room : Room). room.params) on.room ∙ kept.params in
       record {
         zone = kept.zone;
         params = same;
-        zone_params = leads.1.params ∙ same;
+        zone_params = on.keeps.params ∙ same;
         pages_params = on.pages_params;
         room = subst IsFitRoom (sym on.room) kept.room;
         few = on.few;
@@ -121,8 +128,8 @@ module _ (b : Bundle) (plan : Plan) (old new : Book) (idle pages : Ready) (pass 
         visits = on.visits ∙ ap (λ (visits : List Visit). visits ++ visit_in s ∷ []) kept.visits ∙ sym (map-append visit_in kept.stays (s ∷ []));
         entries = sym (append_assoc (log_at pass.number pass.base.log) pass.own s.entries) ∙ ap (λ (log : List SupplyEntry). log ++ s.entries) kept.entries
             ∙ ap (λ (log : List SupplyEntry). entries_in kept.stays ++ log) (sym (append-nil s.entries)) ∙ sym (flat_map-append (λ (s : Stay). s.entries) kept.stays (s ∷ []));
-        shows = leads.1.shows;
-        whole = subst (λ (p : ZoneParams). IsWhole p last.made.end) same leads.1.whole;
+        shows = on.keeps.shows;
+        whole = subst (λ (p : ZoneParams). IsWhole p last.made.end) same on.keeps.whole;
       }
 
   more : GoesOn b plan old new pages pass later s → HasOneMore b plan old new pages pass later s
@@ -207,3 +214,38 @@ one_more_since opened b plan old new pages pass after s le more =
     ap (λ (l : List Stay). by_seat (drop opened l)) more.stays
     ∙ ap by_seat (drop-append-le opened stays (s ∷ []) le)
     ∙ map-append (λ (s : Stay). (s.cpu, s)) (drop opened stays) (s ∷ [])
+
+-- ---- a visit
+
+module _ (b : Bundle) (plan : Plan) (old new : Book) (idle pages : Ready) (pass after : SupplyPass) (round cpu : ℕ) (recent : List Step) (step : Step) (reply : Reply) (exchanges : List Exchange) where
+  abbrev before : History
+  before = history_told b plan old.visits pass
+
+  abbrev own : CpuPart
+  own = cpu_part before.made.end cpu
+
+  abbrev Leads : History → ZoneParams → Type 0
+  Leads last q =
+      new.room.params ≡ q → cpu < q.cpus → NeedNone q own recent → needs_visit q (own_in q before cpu recent) step ≡ true → Extends q cpu before last recent step reply exchanges →
+      LeadsTo q before last (stay_of_visit q round cpu own recent step reply exchanges (cpu_part last.made.end cpu))
+
+  pub visit_goes_on : IsLockedZone b plan old idle pass → (visit : HasVisit b plan old new pages pass after round cpu recent step reply exchanges) → GoesOn b plan old new pages pass after (stay_at b plan old pass round cpu recent step reply exchanges visit.last)
+  visit_goes_on kept visit =
+      let h = history_of b plan old idle pass kept in
+      let first : KeepsHistory old before = subst (KeepsHistory old) (sym h.is_told) h.keeps in
+      let same : new.room.params ≡ params_of b plan pass.number = ap (λ (room : Room). room.params) visit.room ∙ kept.params in
+      let count : length recent + 1 ≡ length (recent ++ step ∷ []) = sym (length-append recent (step ∷ [])) in
+      let at : ℕ → Visit = λ count. record { round = round; cpu = cpu; count = count; settled = false } in
+      record {
+        pass_is = visit.pass_is;
+        pages_params = visit.pages_params;
+        idle = visit.idle;
+        none_wait = visit.none_wait;
+        room = visit.room;
+        visits = visit.visits ∙ ap (λ n. old.visits ++ at n ∷ []) count;
+        few = visit.few;
+        steps = ap (λ n. steps_told b plan pass.number old.visits (at n)) (sym count) ∙ visit.steps;
+        last = visit.last;
+        keeps = visit.keeps;
+        leads = subst (Leads visit.last) kept.params (λ same lt none needs extends. visits_are_stays old new before visit.last round cpu recent step reply exchanges same lt first visit.keeps none needs extends) same visit.one_of visit.none visit.needs visit.extends;
+      }

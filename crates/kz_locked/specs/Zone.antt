@@ -1,19 +1,24 @@
 -- A zone behind its turn: what it keeps, its base, its journal, and what a CPU's pass knows of it.
-use Rattle.std.specs.Prelude.{◌≡◌, ℕ, ◌<◌, ◌≤◌, List, [], ◌∷◌, ◌++◌, length, sum, map, take, drop}
+use Rattle.std.specs.Prelude.{◌≡◌, true, ℕ, ◌<◌, ◌≤◌, List, [], ◌∷◌, ◌++◌, length, sum, map, take, drop}
 use Rattle.std.specs.Option.{unwrap_or}
 use Rattle.kz_model.specs.declared.bundle.Bundle.{Bundle}
 use Rattle.kz_model.specs.declared.record.Plan.{Plan}
 use Rattle.kz_model.specs.declared.record.Visit.{Visit}
+use Rattle.kz_model.specs.declared.step.Reply.{Reply}
 use Rattle.kz_model.specs.declared.step.Step.{Step}
 use Rattle.kz_model.specs.declared.supply.SupplyEntry.{SupplyEntry}
 use Rattle.kz_model.specs.Run.Journal.{params_of, steps_of, carried}
 use Rattle.kz_model.specs.Zone.Alone.{Course, alone}
 use Rattle.kz_model.specs.Zone.State.{CpuPart, ZoneState, opening, cpu_part}
+use Rattle.kz_model.specs.Zone.Late.{NeedNone}
+use Rattle.kz_model.specs.Zone.Rules.{needs_visit}
 use Rattle.kz_model.specs.Zone.Whole.{IsWhole}
+use Rattle.kz_supply.specs.Exchange.{Exchange, entries_of as entries_at}
 use Rattle.kz_supply.specs.Ready.{Ready, NoAnswer}
 use Rattle.kz_zone.specs.Room.{IsFitRoom}
 use Rattle.kz_zone.specs.Zone.{StandsFor}
 use Rattle.kz_book.specs.Book.{Book, History, KeepsHistory}
+use Rattle.kz_book.specs.Visits.{Extends, own_in, visit_of}
 use Rattle.kz_turn.specs.Journal.{entries_of}
 use Rattle.kz_turn.specs.Passes.{PassView}
 use Rattle.kz_laws.specs.declared.stays.Stay.{Stay}
@@ -21,7 +26,7 @@ use Rattle.kz_laws.specs.Stays.{AreStays, HaveSteps, visit_in, visits_in, steps_
 use Rattle.kz_locked.specs.declared.supply.SupplyStart.{SupplyStart}
 use Rattle.kz_locked.specs.declared.zone.ZoneStart.{ZoneStart}
 use Rattle.kz_locked.specs.Supply.{own_log}
-use Rattle.kz_locked.specs.Visits.{LeadsTo}
+use Rattle.kz_locked.specs.Visits.{LeadsTo, stay_of_visit}
 
 -- the pass of the supply's turn that a zone keeps
 abbrev pub SupplyPass : Type 0
@@ -90,7 +95,7 @@ history_told b plan visits pass =
     let nothing : Course = record { replies = []; asks = []; before = []; end = opening p; left = [] } in
     record { steps = steps; answers = answers; made = unwrap_or (alone p steps answers) nothing }
 
--- One more stay in a locked zone: from each history of the book to one of the book after it, which has one more visit.
+-- One more stay in a locked zone: from the history that is told to one of the book after it, which has one more visit.
 -- The pass made the stay's entries, and the pages are idle again.
 pub record GoesOn (b : Bundle) (plan : Plan) (old new : Book) (pages : Ready) (pass after : SupplyPass)
     (s : Stay) : Type 0 where
@@ -102,8 +107,9 @@ pub record GoesOn (b : Bundle) (plan : Plan) (old new : Book) (pages : Ready) (p
   pub visits : new.visits ≡ old.visits ++ visit_in s ∷ []
   pub few : length new.visits ≤ sum new.room.steps
   pub steps : steps_told b plan pass.number old.visits (visit_in s) ≡ s.steps
-  pub leads : (before : History) → KeepsHistory old before →
-      (last : History) × KeepsHistory new last × LeadsTo (params_of b plan pass.number) before last s
+  pub last : History
+  pub keeps : KeepsHistory new last
+  pub leads : LeadsTo (params_of b plan pass.number) (history_told b plan old.visits pass) last s
 
 -- A locked zone stays one with one more stay, and tells one more.
 pub record HasOneMore (b : Bundle) (plan : Plan) (old new : Book) (pages : Ready) (pass after : SupplyPass)
@@ -140,3 +146,43 @@ PassesKnowParts =
     zone_start opened b plan book held ≡ pass.base →
     entries_of pass.number (stays_since opened b plan book.visits held) ≡ pass.own →
     FindsPart b plan book held pass
+
+-- ---- a visit
+
+-- A CPU's visit of these recent steps and this one, as the book has it afterwards: it extends the history that is told,
+-- and its steps are those that it has to carry. The pass made the entries of its exchanges, and the pages are idle again.
+pub record HasVisit (b : Bundle) (plan : Plan) (old new : Book) (pages : Ready) (pass after : SupplyPass)
+    (round cpu : ℕ) (recent : List Step) (step : Step) (reply : Reply) (exchanges : List Exchange) : Type 0 where
+  pub one_of : cpu < b.cpus
+  pub none : NeedNone (params_of b plan pass.number) (cpu_part (history_told b plan old.visits pass).made.end cpu) recent
+  pub needs : needs_visit (params_of b plan pass.number)
+      (own_in (params_of b plan pass.number) (history_told b plan old.visits pass) cpu recent) step ≡ true
+  pub steps : steps_told b plan pass.number old.visits (visit_of round cpu recent) ≡ recent ++ step ∷ []
+  pub pass_is : after ≡ record pass { own = pass.own ++ entries_at pass.number exchanges }
+  pub pages_params : pages.params ≡ params_of b plan pass.number
+  pub idle : pages.ready ≡ NoAnswer
+  pub none_wait : pages.waiting ≡ []
+  pub room : new.room ≡ old.room
+  pub visits : new.visits ≡ old.visits ++ visit_of round cpu recent ∷ []
+  pub few : length new.visits ≤ sum new.room.steps
+  pub last : History
+  pub keeps : KeepsHistory new last
+  pub extends : Extends (params_of b plan pass.number) cpu (history_told b plan old.visits pass) last recent step reply
+      exchanges
+
+-- the stay that the visit is
+abbrev pub stay_at : Bundle → Plan → Book → SupplyPass → ℕ → ℕ → List Step → Step → Reply → List Exchange → History → Stay
+stay_at b plan old pass round cpu recent step reply exchanges last =
+    stay_of_visit (params_of b plan pass.number) round cpu
+    (cpu_part (history_told b plan old.visits pass).made.end cpu) recent step reply exchanges
+    (cpu_part last.made.end cpu)
+
+-- A visit to a locked zone is one more stay there.
+abbrev pub VisitsGoOn : Type 0
+VisitsGoOn =
+    (b : Bundle) (plan : Plan) (old new : Book) (idle pages : Ready) (pass after : SupplyPass) (round cpu : ℕ)
+    (recent : List Step) (step : Step) (reply : Reply) (exchanges : List Exchange) →
+    IsLockedZone b plan old idle pass →
+    (visit : HasVisit b plan old new pages pass after round cpu recent step reply exchanges) →
+    GoesOn b plan old new pages pass after
+    (stay_at b plan old pass round cpu recent step reply exchanges visit.last)

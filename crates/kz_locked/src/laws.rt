@@ -1,6 +1,6 @@
 //! Laws over stays and books, each the contract of a function that does nothing.
 ghost use Rattle.kz_locked.specs.Visits.{VisitsAreStays, SettlingsAreStays};
-ghost use Rattle.kz_locked.specs.Zone.{OneMoreStayIsKept, PassesKnowParts};
+ghost use Rattle.kz_locked.specs.Zone.{OneMoreStayIsKept, PassesKnowParts, VisitsGoOn};
 
 /// A visit to a book is a stay.
 pub fn visits_are_stays()
@@ -20,4 +20,9 @@ pub fn one_more_stay_is_kept()
 /// What a pass of a zone's turn knows is what its CPU has of the zone.
 pub fn passes_know_parts()
     ensures { PassesKnowParts }
+{}
+
+/// A visit to a locked zone is one more stay there.
+pub fn visits_go_on()
+    ensures { VisitsGoOn }
 {}
