@@ -1,5 +1,5 @@
 -- One more stay in a locked zone, and what a CPU's pass knows of it.
-use Rattle.std.proofs.Common.{◌≡◌, ℕ, ◌+◌, ◌^◌, ◌<◌, ◌≤◌, ◌==◌, true, false, if◌then◌else◌, List, [], ◌∷◌, ◌++◌, length, take, drop, map, Option, Some, refl, ap, sym, ◌∙◌, subst, arith, append_assoc, length-append}
+use Rattle.std.proofs.Common.{◌≡◌, ℕ, ◌+◌, ◌^◌, ◌<◌, ◌≤◌, ◌==◌, true, false, if◌then◌else◌, List, [], ◌∷◌, ◌++◌, length, sum, take, drop, map, Option, Some, refl, ap, sym, ◌∙◌, subst, arith, append_assoc, length-append}
 use Rattle.std.proofs.Math.Logic.{∥∥₁_elim}
 use Rattle.std.proofs.Props.{props}
 use Rattle.std.specs.Option.{unwrap_or}
@@ -14,6 +14,7 @@ use Rattle.kz_model.specs.declared.record.Visit.{Visit}
 use Rattle.kz_model.specs.declared.record.ZoneParams.{ZoneParams}
 use Rattle.kz_model.specs.declared.step.Reply.{Reply}
 use Rattle.kz_model.specs.declared.step.Step.{Step}
+use Rattle.kz_model.specs.declared.supply.Answer.{Answer}
 use Rattle.kz_model.specs.declared.supply.SupplyEntry.{SupplyEntry}
 use Rattle.kz_model.specs.Run.Journal.{log_at, params_of}
 use Rattle.kz_model.specs.Zone.Alone.{Course, alone, course}
@@ -26,19 +27,19 @@ use Rattle.kz_supply.specs.Ready.{Ready}
 use Rattle.kz_zone.specs.Room.{IsFitRoom}
 use Rattle.kz_zone.specs.Zone.{StandsFor}
 use Rattle.kz_book.specs.Book.{Book, History, KeepsHistory}
-use Rattle.kz_book.specs.Visits.{Extends, own_in}
+use Rattle.kz_book.specs.Visits.{Extends, Settles, own_in}
 use Rattle.kz_turn.specs.Journal.{entries_of}
 use Rattle.kz_turn.specs.Passes.{PassView}
 use Rattle.kz_laws.specs.declared.stays.Stay.{Stay}
 use Rattle.kz_laws.specs.Stays.{IsStay, AreStays, HaveSteps, visit_in, visits_in, steps_in, entries_in, answers_in, stays_told, part_left, stays_by}
 use Rattle.kz_laws.proofs.OrderRuns.{used_all}
 use Rattle.kz_laws.proofs.StayCourses.{stays_course}
-use Rattle.kz_laws.proofs.StayParts.{stays_leave, told}
+use Rattle.kz_laws.proofs.StayParts.{stays_leave, told as tell}
 use Rattle.kz_locked.specs.declared.zone.ZoneStart.{ZoneStart}
 use Rattle.kz_locked.specs.Supply.{own_log}
-use Rattle.kz_locked.specs.Zone.{SupplyPass, IsLockedZone, GoesOn, HasOneMore, FindsPart, history_told, steps_told, stays_of, stays_since, by_seat, zone_start, HasVisit, stay_at}
-use Rattle.kz_locked.specs.Visits.{LeadsTo, stay_of_visit}
-use Rattle.kz_locked.proofs.Visits.{visits_are_stays}
+use Rattle.kz_locked.specs.Zone.{SupplyPass, IsLockedZone, GoesOn, HasOneMore, FindsPart, history_told, steps_told, stays_of, stays_since, by_seat, zone_start, HasVisit, HasSettling, IsNewZone, stay_at}
+use Rattle.kz_locked.specs.Visits.{LeadsTo, stay_of_visit, stay_of_settling}
+use Rattle.kz_locked.proofs.Visits.{visits_are_stays, settlings_are_stays}
 
 -- ---- a stay behind others
 
@@ -57,7 +58,7 @@ told_is b plan book pages pass kept =
     let steps = steps_told b plan pass.number in
     ap (λ (visits : List Visit). stays_of b plan visits pass) kept.visits
     ∙ ap (λ (log : List SupplyEntry). stays_told p steps (opening p) [] (visits_in kept.stays) log) kept.entries
-    ∙ told p steps (opening p) kept.end [] kept.stays kept.are kept.steps
+    ∙ tell p steps (opening p) kept.end [] kept.stays kept.are kept.steps
 
 -- ---- the history of a locked zone
 
@@ -249,3 +250,66 @@ module _ (b : Bundle) (plan : Plan) (old new : Book) (idle pages : Ready) (pass 
         keeps = visit.keeps;
         leads = subst (Leads visit.last) kept.params (λ same lt none needs extends. visits_are_stays old new before visit.last round cpu recent step reply exchanges same lt first visit.keeps none needs extends) same visit.one_of visit.none visit.needs visit.extends;
       }
+
+-- ---- a settled visit
+
+module _ (b : Bundle) (plan : Plan) (old new : Book) (pages : Ready) (pass : SupplyPass) (round cpu : ℕ) (recent : List Step) where
+  abbrev told : History
+  told = history_told b plan old.visits pass
+
+  abbrev part : CpuPart
+  part = cpu_part told.made.end cpu
+
+  abbrev LeadsLate : History → ZoneParams → Type 0
+  LeadsLate last q =
+      new.room.params ≡ q → cpu < q.cpus → NeedNone q part recent → Settles q cpu told last recent →
+      LeadsTo q told last (stay_of_settling q round cpu part recent (cpu_part last.made.end cpu))
+
+  pub settling_goes_on : IsLockedZone b plan old pages pass → (settling : HasSettling b plan old new pass round cpu recent) →
+      GoesOn b plan old new pages pass pass (stay_of_settling (params_of b plan pass.number) round cpu part recent (cpu_part settling.last.made.end cpu))
+  settling_goes_on kept settling =
+      let h = history_of b plan old pages pass kept in
+      let first : KeepsHistory old told = subst (KeepsHistory old) (sym h.is_told) h.keeps in
+      let same : new.room.params ≡ params_of b plan pass.number = ap (λ (room : Room). room.params) settling.room ∙ kept.params in
+      record {
+        pass_is = ap (λ (own : List SupplyEntry). record { name = pass.name; number = pass.number; base = pass.base; own = own }) (sym (append-nil pass.own));
+        pages_params = kept.pages_params;
+        idle = kept.idle;
+        none_wait = kept.none_wait;
+        room = settling.room;
+        visits = settling.visits;
+        few = settling.few;
+        steps = settling.steps;
+        last = settling.last;
+        keeps = settling.keeps;
+        leads = subst (LeadsLate settling.last) kept.params (λ same lt none settles. settlings_are_stays old new told settling.last round cpu recent same lt first settling.keeps settling.some none settles) same settling.one_of settling.none settling.settles;
+      }
+
+-- ---- the first round
+
+pub new_is_locked : (b : Bundle) (plan : Plan) (book : Book) (pages : Ready) (pass : SupplyPass) → IsNewZone b plan book pages pass → IsLockedZone b plan book pages pass
+new_is_locked b plan book pages pass new =
+    let p = params_of b plan pass.number in
+    let j = new.history in
+    let is : Some (nothing p) ≡ Some j.made =
+    ap (λ (l : List (ℕ × Step)). alone p l []) (sym new.no_steps) ∙ ap (λ (l : List Answer). alone p j.steps l) (sym new.no_answers) ∙ ap (λ (p : ZoneParams). alone p j.steps j.answers) (sym new.params) ∙ new.keeps.alone in
+    let made : nothing p ≡ j.made = ap (λ (made : Option Course). unwrap_or made (nothing p)) is in
+    let ends : j.made.end ≡ opening p = ap (λ (c : Course). c.end) (sym made) in
+    record {
+      zone = new.zone;
+      params = new.params;
+      zone_params = new.keeps.params ∙ new.params;
+      pages_params = new.pages_params;
+      room = new.room;
+      few = subst (λ (visits : List Visit). length visits ≤ sum book.room.steps) (sym new.visits) (omega arith);
+      idle = new.idle;
+      none_wait = new.none_wait;
+      stays = [];
+      end = opening p;
+      are = refl;
+      steps = tt;
+      visits = new.visits;
+      entries = new.entries;
+      shows = subst (λ (end : ZoneState). StandsFor book.zone end.shared) ends new.keeps.shows;
+      whole = subst (λ (end : ZoneState). IsWhole p end) ends (subst (λ (p : ZoneParams). IsWhole p j.made.end) new.params new.keeps.whole);
+    }

@@ -18,7 +18,7 @@ use Rattle.kz_supply.specs.Ready.{Ready, NoAnswer}
 use Rattle.kz_zone.specs.Room.{IsFitRoom}
 use Rattle.kz_zone.specs.Zone.{StandsFor}
 use Rattle.kz_book.specs.Book.{Book, History, KeepsHistory}
-use Rattle.kz_book.specs.Visits.{Extends, own_in, visit_of}
+use Rattle.kz_book.specs.Visits.{Extends, Settles, own_in, visit_of, settled_of}
 use Rattle.kz_turn.specs.Journal.{entries_of}
 use Rattle.kz_turn.specs.Passes.{PassView}
 use Rattle.kz_laws.specs.declared.stays.Stay.{Stay}
@@ -26,7 +26,7 @@ use Rattle.kz_laws.specs.Stays.{AreStays, HaveSteps, visit_in, visits_in, steps_
 use Rattle.kz_locked.specs.declared.supply.SupplyStart.{SupplyStart}
 use Rattle.kz_locked.specs.declared.zone.ZoneStart.{ZoneStart}
 use Rattle.kz_locked.specs.Supply.{own_log}
-use Rattle.kz_locked.specs.Visits.{LeadsTo, stay_of_visit}
+use Rattle.kz_locked.specs.Visits.{LeadsTo, stay_of_visit, stay_of_settling}
 
 -- the pass of the supply's turn that a zone keeps
 abbrev pub SupplyPass : Type 0
@@ -186,3 +186,50 @@ VisitsGoOn =
     (visit : HasVisit b plan old new pages pass after round cpu recent step reply exchanges) →
     GoesOn b plan old new pages pass after
     (stay_at b plan old pass round cpu recent step reply exchanges visit.last)
+
+-- A settled visit of a CPU's recent steps, as the book has it afterwards. It asks nothing.
+pub record HasSettling (b : Bundle) (plan : Plan) (old new : Book) (pass : SupplyPass) (round cpu : ℕ)
+    (recent : List Step) : Type 0 where
+  pub one_of : cpu < b.cpus
+  pub some : 1 ≤ length recent
+  pub none : NeedNone (params_of b plan pass.number) (cpu_part (history_told b plan old.visits pass).made.end cpu) recent
+  pub steps : steps_told b plan pass.number old.visits (settled_of round cpu recent) ≡ recent
+  pub room : new.room ≡ old.room
+  pub visits : new.visits ≡ old.visits ++ settled_of round cpu recent ∷ []
+  pub few : length new.visits ≤ sum new.room.steps
+  pub last : History
+  pub keeps : KeepsHistory new last
+  pub settles : Settles (params_of b plan pass.number) cpu (history_told b plan old.visits pass) last recent
+
+-- A settled visit to a locked zone is one more stay there too.
+abbrev pub SettlingsGoOn : Type 0
+SettlingsGoOn =
+    (b : Bundle) (plan : Plan) (old new : Book) (pages : Ready) (pass : SupplyPass) (round cpu : ℕ)
+    (recent : List Step) → IsLockedZone b plan old pages pass →
+    (settling : HasSettling b plan old new pass round cpu recent) →
+    GoesOn b plan old new pages pass pass
+    (stay_of_settling (params_of b plan pass.number) round cpu
+    (cpu_part (history_told b plan old.visits pass).made.end cpu) recent (cpu_part settling.last.made.end cpu))
+
+-- ---- the first round
+
+-- A zone that no CPU has visited, and for which no entry was made.
+pub record IsNewZone (b : Bundle) (plan : Plan) (book : Book) (pages : Ready) (pass : SupplyPass) : Type 0 where
+  pub zone : pass.number < length plan.zones
+  pub params : book.room.params ≡ params_of b plan pass.number
+  pub pages_params : pages.params ≡ params_of b plan pass.number
+  pub room : IsFitRoom book.room
+  pub idle : pages.ready ≡ NoAnswer
+  pub none_wait : pages.waiting ≡ []
+  pub visits : book.visits ≡ []
+  pub entries : own_log pass ≡ []
+  pub history : History
+  pub keeps : KeepsHistory book history
+  pub no_steps : history.steps ≡ []
+  pub no_answers : history.answers ≡ []
+
+-- A new zone can be put behind a turn.
+abbrev pub NewZonesAreLocked : Type 0
+NewZonesAreLocked =
+    (b : Bundle) (plan : Plan) (book : Book) (pages : Ready) (pass : SupplyPass) →
+    IsNewZone b plan book pages pass → IsLockedZone b plan book pages pass

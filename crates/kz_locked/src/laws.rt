@@ -1,6 +1,6 @@
 //! Laws over stays and books, each the contract of a function that does nothing.
 ghost use Rattle.kz_locked.specs.Visits.{VisitsAreStays, SettlingsAreStays};
-ghost use Rattle.kz_locked.specs.Zone.{OneMoreStayIsKept, PassesKnowParts, VisitsGoOn};
+ghost use Rattle.kz_locked.specs.Zone.{OneMoreStayIsKept, PassesKnowParts, VisitsGoOn, SettlingsGoOn, NewZonesAreLocked};
 
 /// A visit to a book is a stay.
 pub fn visits_are_stays()
@@ -25,4 +25,14 @@ pub fn passes_know_parts()
 /// A visit to a locked zone is one more stay there.
 pub fn visits_go_on()
     ensures { VisitsGoOn }
+{}
+
+/// A settled visit to a locked zone is one more stay there too.
+pub fn settlings_go_on()
+    ensures { SettlingsGoOn }
+{}
+
+/// A new zone can be put behind a turn.
+pub fn new_zones_are_locked()
+    ensures { NewZonesAreLocked }
 {}

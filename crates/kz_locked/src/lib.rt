@@ -13,6 +13,9 @@ mod laws;
 mod supply;
 mod zone;
 
-pub use laws::{one_more_stay_is_kept, passes_know_parts, settlings_are_stays, visits_are_stays, visits_go_on};
+pub use laws::{
+    new_zones_are_locked, one_more_stay_is_kept, passes_know_parts, settlings_are_stays,
+    settlings_go_on, visits_are_stays, visits_go_on,
+};
 pub use supply::{LockedSupply, Share, SupplyStart, ask_for_chunk, ask_for_frames, give_back};
 pub use zone::{LockedZone, TurnName, ZoneStart};
