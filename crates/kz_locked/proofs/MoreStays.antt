@@ -1,6 +1,7 @@
 -- One more stay in a locked zone, and what a CPU's pass knows of it.
-use Rattle.std.proofs.Common.{◌≡◌, ℕ, ◌+◌, ◌^◌, ◌<◌, ◌≤◌, ◌==◌, true, false, if◌then◌else◌, List, [], ◌∷◌, ◌++◌, length, sum, take, drop, map, Option, Some, refl, ap, sym, ◌∙◌, subst, arith, append_assoc, length-append}
+use Rattle.std.proofs.Common.{◌≡◌, ℕ, Bool, ◌&&◌, ◌+◌, ◌^◌, ◌<◌, ◌≤◌, ◌==◌, true, false, if◌then◌else◌, List, [], ◌∷◌, ◌++◌, length, sum, take, drop, map, Option, Some, refl, ap, sym, ◌∙◌, subst, arith, append_assoc, length-append, add-zero, zero-add, drop-drop}
 use Rattle.std.proofs.Math.Logic.{∥∥₁_elim}
+use Rattle.std.proofs.Math.Seq.{take-add}
 use Rattle.std.proofs.Props.{props}
 use Rattle.std.specs.Option.{unwrap_or}
 use Rattle.std.specs.List.{filter}
@@ -16,7 +17,7 @@ use Rattle.kz_model.specs.declared.step.Reply.{Reply}
 use Rattle.kz_model.specs.declared.step.Step.{Step}
 use Rattle.kz_model.specs.declared.supply.Answer.{Answer}
 use Rattle.kz_model.specs.declared.supply.SupplyEntry.{SupplyEntry}
-use Rattle.kz_model.specs.Run.Journal.{log_at, params_of}
+use Rattle.kz_model.specs.Run.Journal.{log_at, params_of, steps_of, carried}
 use Rattle.kz_model.specs.Zone.Alone.{Course, alone, course}
 use Rattle.kz_model.specs.Zone.State.{CpuPart, ZoneState, opening, cpu_part}
 use Rattle.kz_model.specs.Zone.Late.{NeedNone}
@@ -31,7 +32,8 @@ use Rattle.kz_book.specs.Visits.{Extends, Settles, own_in}
 use Rattle.kz_turn.specs.Journal.{entries_of}
 use Rattle.kz_turn.specs.Passes.{PassView}
 use Rattle.kz_laws.specs.declared.stays.Stay.{Stay}
-use Rattle.kz_laws.specs.Stays.{IsStay, AreStays, HaveSteps, visit_in, visits_in, steps_in, entries_in, answers_in, stays_told, part_left, stays_by}
+use Rattle.kz_laws.specs.Stays.{IsStay, AreStays, HaveSteps, visit_in, visits_in, steps_in, entries_in, answers_in, stays_told, part_left, steps_made_by, stays_by}
+use Rattle.kz_laws.proofs.Spelling.{carried-append}
 use Rattle.kz_laws.proofs.OrderRuns.{used_all}
 use Rattle.kz_laws.proofs.StayCourses.{stays_course}
 use Rattle.kz_laws.proofs.StayParts.{stays_leave, told as tell}
@@ -284,6 +286,44 @@ module _ (b : Bundle) (plan : Plan) (old new : Book) (pages : Ready) (pass : Sup
         keeps = settling.keeps;
         leads = subst (LeadsLate settling.last) kept.params (λ same lt none settles. settlings_are_stays old new told settling.last round cpu recent same lt first settling.keeps settling.some none settles) same settling.one_of settling.none settling.settles;
       }
+
+-- ---- the lines that stays carry
+
+module _ (b : Bundle) (plan : Plan) (zone cpu round : ℕ) where
+  abbrev all_steps : List Step
+  all_steps = steps_of b plan cpu zone round
+
+  abbrev is_here : Stay → Bool
+  is_here s = (s.cpu == cpu) && (s.round == round)
+
+  same_both : (n m k l : ℕ) → ((n == m) && (k == l)) ≡ true → (n ≡ m) × (k ≡ l)
+  same_both n m k l e = (grind arith, grind arith)
+
+  carried_after : (earlier : List Visit) (s : Stay) → carried cpu round (earlier ++ visit_in s ∷ []) ≡ carried cpu round earlier + (if is_here s then length s.steps else 0)
+  carried_after earlier s = carried-append cpu round earlier (visit_in s ∷ []) ∙ ap (λ n. carried cpu round earlier + n) (add-zero (if is_here s then length s.steps else 0))
+
+  first_from : (earlier : List Visit) (stays : List Stay) → HaveSteps (steps_told b plan zone) earlier stays →
+      steps_made_by cpu round stays ≡ take (carried cpu round (visits_in stays)) (drop (carried cpu round earlier) all_steps)
+  first_from earlier [] have = refl
+  first_from earlier (s ∷ stays) have =
+      let from = carried cpu round earlier in
+      let later = carried cpu round (visits_in stays) in
+      let n = length s.steps in
+      let rest = first_from (earlier ++ visit_in s ∷ []) stays have.1 in
+      elim (is_here s) as (λ t. is_here s ≡ t → carried cpu round (earlier ++ visit_in s ∷ []) ≡ from + (if t then n else 0) →
+      (if t then s.steps else []) ++ steps_made_by cpu round stays ≡ take ((if t then n else 0) + later) (drop from all_steps)) [
+        | true ↦ λ here after.
+            let same = same_both s.cpu cpu s.round round here in
+            let mine : take n (drop from all_steps) ≡ s.steps = ap (λ c. take n (drop (carried c round earlier) (steps_of b plan c zone round))) (sym same.0)
+            ∙ ap (λ r. take n (drop (carried s.cpu r earlier) (steps_of b plan s.cpu zone r))) (sym same.1) ∙ have.0 in
+            ap (λ (l : List Step). l ++ steps_made_by cpu round stays) (sym mine)
+            ∙ ap (λ (l : List Step). take n (drop from all_steps) ++ l) (rest ∙ ap (λ k. take later (drop k all_steps)) after ∙ ap (take later) (sym (drop-drop n from all_steps)))
+            ∙ sym (take-add n later (drop from all_steps))
+        | false ↦ λ here after. rest ∙ ap (λ k. take later (drop k all_steps)) (after ∙ add-zero from) ∙ ap (λ k. take k (drop from all_steps)) (sym (zero-add later))
+      ] refl (carried_after earlier s)
+
+pub first_steps : (b : Bundle) (plan : Plan) (zone cpu round : ℕ) (stays : List Stay) → HaveSteps (steps_told b plan zone) [] stays → steps_made_by cpu round stays ≡ take (carried cpu round (visits_in stays)) (steps_of b plan cpu zone round)
+first_steps b plan zone cpu round stays have = first_from b plan zone cpu round [] stays have
 
 -- ---- the first round
 

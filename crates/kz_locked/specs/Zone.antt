@@ -22,7 +22,7 @@ use Rattle.kz_book.specs.Visits.{Extends, Settles, own_in, visit_of, settled_of}
 use Rattle.kz_turn.specs.Journal.{entries_of}
 use Rattle.kz_turn.specs.Passes.{PassView}
 use Rattle.kz_laws.specs.declared.stays.Stay.{Stay}
-use Rattle.kz_laws.specs.Stays.{AreStays, HaveSteps, visit_in, visits_in, steps_in, entries_in, answers_in, stays_told, stays_by, part_left}
+use Rattle.kz_laws.specs.Stays.{AreStays, HaveSteps, visit_in, visits_in, steps_in, entries_in, answers_in, stays_told, steps_made_by, stays_by, part_left}
 use Rattle.kz_locked.specs.declared.supply.SupplyStart.{SupplyStart}
 use Rattle.kz_locked.specs.declared.zone.ZoneStart.{ZoneStart}
 use Rattle.kz_locked.specs.Supply.{own_log}
@@ -210,6 +210,14 @@ SettlingsGoOn =
     GoesOn b plan old new pages pass pass
     (stay_of_settling (params_of b plan pass.number) round cpu
     (cpu_part (history_told b plan old.visits pass).made.end cpu) recent (cpu_part settling.last.made.end cpu))
+
+-- ---- the lines that stays carry
+
+-- Of a CPU's steps of each round, the stays of a locked zone carry the first ones, each once and in order.
+abbrev pub StaysCarryFirstSteps : Type 0
+StaysCarryFirstSteps =
+    (b : Bundle) (plan : Plan) (zone cpu round : ℕ) (stays : List Stay) → HaveSteps (steps_told b plan zone) [] stays →
+    steps_made_by cpu round stays ≡ take (carried cpu round (visits_in stays)) (steps_of b plan cpu zone round)
 
 -- ---- the first round
 

@@ -1,6 +1,6 @@
 //! Laws over stays and books, each the contract of a function that does nothing.
 ghost use Rattle.kz_locked.specs.Visits.{VisitsAreStays, SettlingsAreStays};
-ghost use Rattle.kz_locked.specs.Zone.{OneMoreStayIsKept, PassesKnowParts, VisitsGoOn, SettlingsGoOn, NewZonesAreLocked};
+ghost use Rattle.kz_locked.specs.Zone.{OneMoreStayIsKept, PassesKnowParts, VisitsGoOn, SettlingsGoOn, StaysCarryFirstSteps, NewZonesAreLocked};
 
 /// A visit to a book is a stay.
 pub fn visits_are_stays()
@@ -35,4 +35,9 @@ pub fn settlings_go_on()
 /// A new zone can be put behind a turn.
 pub fn new_zones_are_locked()
     ensures { NewZonesAreLocked }
+{}
+
+/// The stays of a locked zone carry the first of each CPU's steps of a round.
+pub fn stays_carry_first_steps()
+    ensures { StaysCarryFirstSteps }
 {}

@@ -15,7 +15,7 @@ mod zone;
 
 pub use laws::{
     new_zones_are_locked, one_more_stay_is_kept, passes_know_parts, settlings_are_stays,
-    settlings_go_on, visits_are_stays, visits_go_on,
+    settlings_go_on, stays_carry_first_steps, visits_are_stays, visits_go_on,
 };
 pub use supply::{LockedSupply, Share, SupplyStart, ask_for_chunk, ask_for_frames, give_back};
 pub use zone::{LockedZone, TurnName, ZoneStart};
