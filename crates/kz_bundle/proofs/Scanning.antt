@@ -72,7 +72,7 @@ scanned_fault declared all old now cpu steps at step refusal h lt is wrong types
 
 -- ---- sections
 
-lines_from-push : (cpu : ℕ) (sections : List Section) (section : Section) → lines_from cpu (sections ++ section ∷ []) ≡ lines_from cpu sections ++ of_cpu (cpu + length sections) section.steps
+pub lines_from-push : (cpu : ℕ) (sections : List Section) (section : Section) → lines_from cpu (sections ++ section ∷ []) ≡ lines_from cpu sections ++ of_cpu (cpu + length sections) section.steps
 lines_from-push cpu [] section = append-nil (of_cpu cpu section.steps) ∙ ap (λ n. of_cpu n section.steps) (omega arith)
 lines_from-push cpu (first ∷ sections) section =
     ap (λ (rest : List CpuLine). of_cpu cpu first.steps ++ rest) (lines_from-push (cpu + 1) sections section ∙ ap (λ n. lines_from (cpu + 1) sections ++ of_cpu n section.steps) (omega arith))

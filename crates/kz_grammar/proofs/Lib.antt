@@ -27,3 +27,5 @@ mod TypeScan
 mod Turned
 mod SoundNames
 mod Pigeons
+mod LinesStand
+mod LinesSaid

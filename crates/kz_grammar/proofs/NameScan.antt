@@ -13,6 +13,7 @@ use Rattle.kz_model.specs.declared.grammar.Counted.TheVariants as counted
 use Rattle.kz_model.specs.declared.grammar.Refusal.{Refusal}
 use Rattle.kz_model.specs.Grammar.Stages.{else_fault, fault_if, Row, has, row_of, row_names, is_there, binds, type_in, name_in, gives_to, with_bound, with_row, rows_of, CpuLine, bound_fault, names_from}
 use Rattle.kz_grammar.specs.Names.{Allocates, IsBound, AreDifferent, AreNamed, HasOtherType, HasOtherCpu, IsOneNameTooMany, HasUnknownName, BreaksNames, IsNameFault}
+use Rattle.kz_bundle.proofs.Choices.{equal, itself}
 use Rattle.kz_grammar.proofs.Members.{is_among, is_not_among}
 use Rattle.kz_grammar.proofs.Cases.{SuitsRow, test_first, test_last, bound_first, if_some}
 use Rattle.kz_grammar.proofs.RowFacts.{is_binding, is_allocation, new_row, with_bound-old, with_bound-new, row_stays, row_is_new, row_from, HasFirst, is_bound, bound_has_row, rows_from}
@@ -229,9 +230,3 @@ scan types whole before rows (line ∷ lines) parts h =
     (if_some (name_in line.1.said) (IsBound whole) (λ name is. known_name types whole before rows line lines parts h name (row_of name All) refl (not-false (is_there (row_of name All)) (name_known name is))))
     (λ is. true≢false (sym (itself line.0) ∙ gift_fine line.0 is))
     suits)))))
-  where
-    equal : (a b : ℕ) → (a == b) ≡ true → a ≡ b
-    equal a b e = grind arith
-
-    itself : (a : ℕ) → (a == a) ≡ true
-    itself a = grind arith

@@ -41,11 +41,16 @@ module _ (types : List (List ℕ)) (whole before : List CpuLine) (line : CpuLine
 
   too_many : IsOneNameTooMany before line → ⊥
   too_many many =
-      absurd (omega (arith, many.many, sound.few.few, no_more (many.name ∷ many.names) sound.few.names (one_more_differs before many.name many.names many.different many.bound many.new)
-      (λ name there. sound.few.each name (⊎_elim
-      (λ (same : many.name ≡ name). subst (IsBound whole) same (record { line = line; of = many.of; there = here; allocates = many.here }))
-      (λ later. earlier_bound name (All-contains (IsBound before) many.names name many.bound later))
-      (contains_cases many.name many.names name there)))))
+      absurd (omega (
+        arith,
+        many.many,
+        sound.few.few,
+        no_more (many.name ∷ many.names) sound.few.names (one_more_differs before many.name many.names many.different many.bound many.new)
+            (λ name there. sound.few.each name (⊎_elim
+            (λ (same : many.name ≡ name). subst (IsBound whole) same (record { line = line; of = many.of; there = here; allocates = many.here }))
+            (λ later. earlier_bound name (All-contains (IsBound before) many.names name many.bound later))
+            (contains_cases many.name many.names name there))),
+      ))
 
   pub not_broken : (cause : Cause) → BreaksNames types whole cause before line → ⊥
   not_broken cause.UnknownType broken = broken.unknown (at_some (type_in line.1.said) broken.of (Contains types) broken.here (All-contains (λ (line : CpuLine). IfSome (type_in line.1.said) (Contains types)) whole line sound.declared here))

@@ -5,3 +5,4 @@ pub mod Rounds
 pub mod Declarations
 pub mod NameLaws
 pub mod BundleNames
+pub mod LineNumbers

@@ -1,5 +1,6 @@
 //! Laws over types, names, rounds and the order, each the contract of a function that does nothing.
 ghost use Rattle.kz_grammar.specs.BundleNames.{SpelledNameRowsAreSound};
+ghost use Rattle.kz_grammar.specs.LineNumbers.{StepLinesStand, NoStepLineIsMissing, SectionsStand, TypeLinesStand};
 ghost use Rattle.kz_grammar.specs.NameLaws.{SpelledIsSound, TypeFaultsAreTrue, NameFaultsAreTrue, RoundFaultsAreTrue, FirstFaultsAreTrue, SoundHasNoFault};
 ghost use Rattle.kz_model.specs.Grammar.Form.{Draft};
 
@@ -8,6 +9,15 @@ ghost use Rattle.kz_model.specs.Grammar.Form.{Draft};
 pub fn what_is_spelled_is_sound()
     ensures text { SpelledIsSound }
     ensures bundle { SpelledNameRowsAreSound }
+{}
+
+/// What is said of a draft's step lines and declarations is said of the text's lines: each stands there at its number,
+/// in the section of its CPU.
+pub fn lines_stand_in_the_text()
+    ensures steps { StepLinesStand }
+    ensures all { NoStepLineIsMissing }
+    ensures sections { SectionsStand }
+    ensures types { TypeLinesStand }
 {}
 
 /// A fault of the stages after the form comes only where its own sentence is broken, at the first line that breaks one.

@@ -1,3 +1,5 @@
+pub mod Backs
+pub mod Grants
 pub mod Shares
 pub mod Since
 pub mod Visits

@@ -1,5 +1,5 @@
 -- The log since a turn was opened, with one more entry.
-use Rattle.std.proofs.Common.{◌≡◌, ℕ, ◌^◌, ◌<◌, ◌≤◌, ◌==◌, true, false, if◌then◌else◌, List, [], ◌∷◌, ◌++◌, length, take, drop, map, refl, ap, sym, ◌∙◌, arith, length-append}
+use Rattle.std.proofs.Common.{◌≡◌, ℕ, ◌^◌, ◌<◌, ◌≤◌, ◌==◌, true, false, if◌then◌else◌, List, [], ◌∷◌, ◌++◌, length, take, drop, map, refl, ap, sym, ◌∙◌, subst, arith, length-append}
 use Rattle.std.specs.List.{filter}
 use Rattle.std.proofs.lemmas.List.{map-append, length-map, length-drop, take-append-le, drop-append-le, take-append-drop}
 use Rattle.std.proofs.lemmas.List.Elements.{filter-append}
@@ -50,3 +50,9 @@ own_log_is zone opened shares s pass number base own =
     ∙ ap (λ (l : List SupplyEntry). log_at zone (take opened log) ++ l) (sym (entries_of_log zone (drop opened log)) ∙ ap (λ n. entries_of n (entries_since opened s)) (sym number) ∙ own)
     ∙ ap (λ (start : SupplyStart). log_at zone start.log ++ pass.own) base
     ∙ ap (λ n. log_at n pass.base.log ++ pass.own) (sym number)
+
+-- what a stay finds of the supply's beginning and of the zone's entries is so of the pass
+pub found_by_pass : (zone opened : ℕ) (shares : List Share) (s : ThinSupply) (pass : PassView SupplyStart SupplyEntry) → pass.number ≡ zone → start_of shares opened s ≡ pass.base → entries_of pass.number (entries_since opened s) ≡ pass.own →
+    (P : SupplyStart → List SupplyEntry → Type 0) → P (start_of shares opened s) (log_at zone s.counted.log) → P pass.base (own_log pass)
+found_by_pass zone opened shares s pass number base own P found =
+    subst (P pass.base) (own_log_is zone opened shares s pass number base own) (subst (λ (start : SupplyStart). P start (log_at zone s.counted.log)) base found)

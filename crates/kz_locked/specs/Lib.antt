@@ -1,3 +1,4 @@
+pub mod Readying
 pub mod Shares
 pub mod Supply
 pub mod Visits

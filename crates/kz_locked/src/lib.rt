@@ -10,6 +10,7 @@
 #![tactic(auto)]
 
 mod laws;
+mod readying;
 mod supply;
 mod zone;
 
@@ -17,5 +18,6 @@ pub use laws::{
     new_zones_are_locked, one_more_stay_is_kept, passes_know_parts, settlings_are_stays,
     settlings_go_on, stays_carry_first_steps, visits_are_stays, visits_go_on,
 };
+pub use readying::{hand_back, make_ready};
 pub use supply::{LockedSupply, Share, SupplyStart, ask_for_chunk, ask_for_frames, give_back};
 pub use zone::{LockedZone, TurnName, ZoneStart};

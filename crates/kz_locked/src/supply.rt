@@ -1,12 +1,13 @@
 //! The supply behind a turn.
-ghost use Rattle.std.specs.Prelude.{◌≡◌, ◌^◌, ◌<◌, ◌≤◌, ◌++◌, ◌∷◌, [], length, IfOk};
+ghost use Rattle.std.specs.Prelude.{◌≡◌, ℕ, ◌+◌, ◌^◌, ◌<◌, ◌≤◌, ◌++◌, ◌∷◌, [], length, IfOk, IfErr};
 ghost use Rattle.kz_model.specs.Run.Journal.{log_at};
 ghost use Rattle.kz_model.specs.declared.supply.Ask.TheVariants.{Chunk as AskChunk, Frames as AskFrames, Back};
 ghost use Rattle.kz_model.specs.declared.supply.Answer.TheVariants.{Taken};
 ghost use Rattle.kz_frame.specs.Frames.{zero_frames};
+ghost use Rattle.kz_supply.specs.declared.pages.Denied.TheVariants.{NoFrames};
 ghost use Rattle.kz_supply.specs.Exchange.{chunk_answer, frames_answer, ask_for_chunk as chunk_ask, ask_for_frames as frames_ask};
 ghost use Rattle.kz_turn.specs.Turns.{turn_name};
-ghost use Rattle.kz_locked.specs.Shares.{IsShared, MayAsk, MayGiveBack, share_of};
+ghost use Rattle.kz_locked.specs.Shares.{IsShared, MayAsk, MayGiveBack, share_of, frames_held};
 ghost use Rattle.kz_locked.specs.Supply.{start_of, entries_since, own_log, own_share};
 
 use kz_frame::Frames;
@@ -104,6 +105,9 @@ impl LockedSupply {
             )
             ∷ [] }
         ensures zero { IfOk result.1 (λ grant. grant.frames ≡ zero_frames params.now.pages) }
+        ensures fits { IfOk result.1 (λ grant. frames_held (log_at params.now.zone self.supply.counted.log) + params.now.pages
+            ≤ self.supply.counted.frames) }
+        ensures below { IfOk result.1 (λ grant. grant.page + params.now.pages ≤ self.supply.counted.pages) }
     {
         let LockedSupply {
             mut supply,
@@ -137,6 +141,9 @@ impl LockedSupply {
             )
             ∷ [] }
         ensures zero { IfOk result.1 (λ frames. frames ≡ zero_frames params.now.pages) }
+        ensures fits { IfOk result.1 (λ frames. frames_held (log_at params.now.zone self.supply.counted.log) + params.now.pages
+            ≤ self.supply.counted.frames) }
+        ensures space { IfErr result.1 (λ denied. (free : ℕ) × (denied ≡ NoFrames free)) }
     {
         let LockedSupply {
             mut supply,
@@ -196,6 +203,8 @@ pub fn ask_for_chunk<R: Wait>(
         ≡ pass.own
         ++ record { zone = params.now.zone; ask = chunk_ask params.now; answer = chunk_answer result.1 } ∷ [] }
     ensures zero { IfOk result.1 (λ grant. grant.frames ≡ zero_frames params.now.pages) }
+    ensures fits { IfOk result.1 (λ grant. frames_held (own_log pass) + params.now.pages ≤ pass.base.frames) }
+    ensures below { IfOk result.1 (λ grant. grant.page + params.now.pages ≤ pass.base.pages) }
 {
     let (held, supply) = turn.enter(rt, pass);
     let (supply, granted) = supply.chunk(params);
@@ -220,6 +229,8 @@ pub fn ask_for_frames<R: Wait>(
         ≡ pass.own
         ++ record { zone = params.now.zone; ask = frames_ask params.now; answer = frames_answer result.1 } ∷ [] }
     ensures zero { IfOk result.1 (λ frames. frames ≡ zero_frames params.now.pages) }
+    ensures fits { IfOk result.1 (λ frames. frames_held (own_log pass) + params.now.pages ≤ pass.base.frames) }
+    ensures space { IfErr result.1 (λ denied. (free : ℕ) × (denied ≡ NoFrames free)) }
 {
     let (held, supply) = turn.enter(rt, pass);
     let (supply, given) = supply.frames(params);

@@ -9,11 +9,9 @@ use Rattle.std.proofs.lemmas.List.Sums.{sum_by-cons, sum_by-append}
 use Rattle.kz_model.specs.Store.Replies.{no_reply}
 use Rattle.kz_model.specs.declared.bundle.Bundle.{Bundle}
 use Rattle.kz_model.specs.declared.bundle.Act.{Act}
-use Rattle.kz_model.specs.declared.bundle.Act.TheVariants as act
 use Rattle.kz_model.specs.declared.bundle.TraceStep.{TraceStep}
 use Rattle.kz_model.specs.declared.record.Plan.{Plan}
 use Rattle.kz_model.specs.declared.step.Reply.{Reply}
-use Rattle.kz_model.specs.declared.step.Reply.TheVariants as reply
 use Rattle.kz_model.specs.Run.Journal.{addressed, trace_of}
 use Rattle.kz_model.specs.Text.Report.{Answered, type_given, type_freed, is_alloc_of, is_free_of, use_line, no_type}
 use Rattle.kz_model.specs.Run.Journal.{no_step}

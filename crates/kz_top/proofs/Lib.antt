@@ -1,3 +1,5 @@
 pub mod Runs
 pub mod Few
 pub mod Outcomes
+pub mod FirstFaults
+pub mod Reading

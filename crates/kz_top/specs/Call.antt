@@ -1,9 +1,9 @@
 -- What the top call answers, and when.
-use Rattle.std.specs.Prelude.{◌≡◌, ◌≢◌, ◌⊎◌, ◌<◌, ◌≤◌, ◌^◌, Bool, IsTrue, ℕ, List, [], ◌∷◌, ◌++◌, Option, Some, length, codes, decimal}
+use Rattle.std.specs.Prelude.{◌≡◌, ◌≢◌, ◌⊎◌, ◌<◌, ◌≤◌, ◌^◌, ◌+◌, Bool, IsTrue, ℕ, List, [], ◌∷◌, ◌++◌, Option, Some, length, codes, decimal}
 use Rattle.std.specs.Option.{IfSome}
-use Rattle.std.specs.Io.KnownBytes.{Appends}
+use Rattle.std.specs.Io.KnownBytes.{Appends, Consumes, IsAtEnd}
 use Rattle.kz_model.specs.Grammar.Tokens.{number_of}
-use Rattle.kz_text.specs.Streams.{Rose, AppendsFront}
+use Rattle.kz_text.specs.Streams.{Rose, AppendsFront, ConsumesBetween}
 use Rattle.kz_model.specs.declared.bundle.Bundle.{Bundle}
 use Rattle.kz_model.specs.declared.grammar.Cause.{Cause}
 use Rattle.kz_model.specs.declared.grammar.Cause.TheVariants as cause
@@ -101,6 +101,30 @@ TakesFront words bytes old new = (command : Command) × (text : List ℕ) × Ask
 abbrev pub IsRefusalOf : List (List ℕ) → List ℕ → Refusal → Type 0
 IsRefusalOf words bytes refusal = IsTooLong bytes refusal
     ⊎ ((command : Command) × Asks words command × (length bytes ≤ most_bytes) × Refuses command bytes refusal)
+
+-- ---- what was read
+
+-- what the input had was taken whole, was no more than an input may have, and nothing is left of it
+pub record IsReadWhole (old new : Option (List ℕ)) : Type 0 where
+  pub bytes : List ℕ
+  pub few : length bytes ≤ most_bytes
+  pub front : Consumes old new bytes
+  pub at_end : IsAtEnd new
+
+-- A refused input was read whole, unless it is too long: then one byte more was read than an input may have, and then
+-- no further one.
+pub record IsReadForRefusal (refusal : Refusal) (old new : Option (List ℕ)) : Type 0 where
+  pub whole : refusal ≢ too_long → IsReadWhole old new
+  pub too_far : refusal ≡ too_long → ConsumesBetween old new (most_bytes + 1) (most_bytes + 1)
+
+-- what was read of the input that a command takes, by how the work ended
+abbrev pub HasRead : Status → Option (List ℕ) → Option (List ℕ) → Type 0
+HasRead status.Ok old new = IsReadWhole old new
+HasRead status.Usage old new = ⊥
+HasRead (status.Refused refusal) old new = IsReadForRefusal refusal old new
+HasRead status.ReadFault old new = ConsumesBetween old new 0 most_bytes
+HasRead status.WriteFault old new = IsReadWhole old new
+HasRead status.Memory old new = ConsumesBetween old new 0 (most_bytes + 1)
 
 -- ---- the line on err
 

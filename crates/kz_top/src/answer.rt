@@ -47,7 +47,6 @@ fn report_of(
 }
 
 /// The summary of the run of the order of a bundle that was made of this number, and that has so many bytes.
-#[tactic(auto, using(crate::proofs::Few::few_replies))]
 fn summary_of(
     alloc: Global,
     number: u64,

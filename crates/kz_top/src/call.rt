@@ -4,7 +4,7 @@ ghost use Rattle.kz_text.specs.Streams.{Rose};
 ghost use Rattle.kz_model.specs.declared.grammar.Refusal.{Refusal};
 ghost use Rattle.kz_top.specs.declared.command.Command.{Command};
 ghost use Rattle.kz_top.specs.declared.command.Command.TheVariants.{Replay, Make};
-ghost use Rattle.kz_top.specs.Call.{Asks, AskNothing, ReadsInput, Gives, Refuses, most_bytes, too_long, TakesText, TakesFront, IsRefusalOf, IsKeptApart, IsMadeFor, IsFinished, IsWork, Tells, status_line};
+ghost use Rattle.kz_top.specs.Call.{Asks, AskNothing, ReadsInput, Gives, Refuses, most_bytes, too_long, TakesText, TakesFront, IsRefusalOf, IsKeptApart, IsMadeFor, IsFinished, IsWork, HasRead, Tells, status_line};
 
 use crate::answer::answer;
 use crate::command::{Command, command_of};
@@ -36,6 +36,11 @@ pub fn kzone_still<S: Source, K: Sink, E: Sink>(
     ensures usage { (result ≡ Status.Usage) ↔ AskNothing words.now }
     ensures nothing_read { result ≡ Status.Usage → input.new ≡ input.old }
     ensures no_input { (number : ℕ) → Asks words.now (Make number) → input.new ≡ input.old }
+
+    // The input was read to its end. But if it is too long one byte more was read than an input may have, and a failing
+    // read or want of memory may leave some of it.
+    ensures read { (command : Command) → Asks words.now command → ReadsInput command →
+        HasRead result (S.rest input.old) (S.rest input.new) }
 
     // With Ok the input, or the text that is made of the number, spells a bundle, and out took the text that the
     // command makes of it.
@@ -113,6 +118,8 @@ fn work<S: Source, K: Sink>(
     ensures usage { (result ≡ Status.Usage) ↔ AskNothing words.now }
     ensures nothing_read { result ≡ Status.Usage → input.new ≡ input.old }
     ensures no_input { (number : ℕ) → Asks words.now (Make number) → input.new ≡ input.old }
+    ensures read { (command : Command) → Asks words.now command → ReadsInput command →
+        HasRead result (S.rest input.old) (S.rest input.new) }
     ensures nothing { result ≢ Status.Ok → result ≢ Status.WriteFault → out.new ≡ out.old }
     ensures done { IsWork words.now (S.rest input.old) (S.faults input.old) (S.faults input.new) (S.is_sure input.old)
         (K.taken out.old) (K.taken out.new) (K.faults out.old) (K.faults out.new) (K.sure_room out.old) result }
@@ -134,6 +141,7 @@ fn work_on_input<S: Source, K: Sink>(
 ) -> Status
     requires { ReadsInput command }
     ensures not_usage { result ≢ Status.Usage }
+    ensures read { HasRead result (S.rest input.old) (S.rest input.new) }
     ensures nothing { result ≢ Status.Ok → result ≢ Status.WriteFault → out.new ≡ out.old }
     ensures done { (words : List (List ℕ)) → Asks words command →
         IsWork words (S.rest input.old) (S.faults input.old) (S.faults input.new) (S.is_sure input.old)

@@ -81,7 +81,7 @@ fn an_element_is_made_zero(rt: HostRuntime) -> Result<(), Fail> {
 
 #[test]
 fn the_lowest_ordinal_of_each_place(rt: HostRuntime) -> Result<(), Fail> {
-    let mut shelf = Shelf::new(rt.alloc(), 4096)?;
+    let mut shelf = Shelf::new(rt.alloc(), 5000)?;
     assert_eq!(rt; shelf.lowest(Place::Whole), None);
     shelf.add(Place::Out);
     shelf.add(Place::Out);

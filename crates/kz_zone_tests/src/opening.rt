@@ -49,6 +49,7 @@ fn a_new_cpu_has_done_nothing(rt: HostRuntime) -> Result<(), Fail> {
     let rooms = rooms(rt.alloc())?;
     let cpu = Cpu::new(rt.alloc(), 0, &rooms, 4, 16)?;
     assert!(rt; !cpu.has_recent(0));
+    assert_eq!(rt; cpu.recent(0).len(), 0);
     assert_eq!(rt; cpu.known_chunks(0), 0);
     Ok(())
 }

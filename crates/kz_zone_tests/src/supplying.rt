@@ -42,6 +42,9 @@ fn frames_come_back_zeroed(rt: HostRuntime) -> Result<(), Fail> {
     let mut bytes = [9];
     read_over(&frames, 4095, &mut bytes);
     assert_eq!(rt; bytes, [0]);
+    let log = supply.into_log();
+    assert_eq!(rt; log.len(), 3);
+    assert_eq!(rt; log.as_slice()[2].answer, Answer::Given);
     Ok(())
 }
 

@@ -9,16 +9,41 @@
 use kz_model::Items;
 use kz_text::{StdSink, StdSource};
 use kz_top::{Status, kzone_still};
-use std::alloc::Global;
-use std::env::Env;
+use std::alloc::{AllocError, Global};
+use std::env::{Env, FillError};
 use std::process::ExitCode;
-use std::{env, io};
 
-/// The words of the command line after the program's own name, each as its bytes.
-fn words_of(rt: &(impl Env + Alloc<A = Global>)) -> io::Result<Vec<Items<u8>>> {
+/// The room for an argument's bytes at first. It doubles until it is enough.
+const FIRST_ROOM: usize = 256;
+
+/// The bytes of the argument at this place, which need not be text; none behind the last.
+fn word_at(
+    rt: &(impl Env + Alloc<A = Global>),
+    place: usize,
+) -> Result<Option<Items<u8>>, AllocError> {
+    let mut room = FIRST_ROOM;
+    for _ in 0..usize::BITS {
+        let mut bytes = vec![in rt.alloc(); 0; room]?;
+        match rt.arg(place, bytes.as_mut_slice()) {
+            Ok(count) => {
+                bytes.truncate(count);
+                return Ok(Some(Items::from_vec(bytes)));
+            }
+            Err(FillError::NotPresent) => return Ok(None),
+            Err(FillError::TooLong) => room = room.saturating_mul(2),
+        }
+    }
+    Err(AllocError)
+}
+
+/// The words of the command line after the program's own name.
+fn words_of(rt: &(impl Env + Alloc<A = Global>)) -> Result<Vec<Items<u8>>, AllocError> {
     let mut words = Vec::new(rt.alloc());
-    for word in env::args(rt)?.skip(1) {
-        words.push(Items::from_vec(word.into_bytes()))?;
+    for place in 1..usize::MAX {
+        match word_at(rt, place)? {
+            Some(word) => words.push(word)?,
+            None => break,
+        }
     }
     Ok(words)
 }

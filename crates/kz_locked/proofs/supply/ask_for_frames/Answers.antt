@@ -1,13 +1,13 @@
-use Rattle.std.proofs.Common.{◌≡◌, ◌++◌, ◌∷◌, [], List, sym, ◌∙◌, ap, subst}
+use Rattle.std.proofs.Common.{◌≡◌, ◌+◌, ◌≤◌, ◌++◌, ◌∷◌, [], List, IfOk, sym, ◌∙◌, ap, subst}
 use Rattle.kz_model.specs.Run.Journal.{log_at}
 use Rattle.kz_model.specs.declared.supply.SupplyEntry.{SupplyEntry}
 use Rattle.kz_supply.specs.Exchange.{frames_answer, ask_for_frames as ask_of}
 use Rattle.kz_turn.specs.Passes.{HeldView}
 use Rattle.kz_locked.specs.declared.supply.Share.{Share}
 use Rattle.kz_locked.specs.declared.supply.SupplyStart.{SupplyStart}
-use Rattle.kz_locked.specs.Shares.{MayAsk, share_of}
+use Rattle.kz_locked.specs.Shares.{MayAsk, share_of, frames_held}
 use Rattle.kz_locked.specs.Supply.{entries_since}
-use Rattle.kz_locked.proofs.Since.{own_log_is}
+use Rattle.kz_locked.proofs.Since.{own_log_is, found_by_pass}
 use Rattle.kz_locked.proofs.supply.ask_for_frames.Goals as goal
 
 pub frames-supply-requires-clause-may : goal.frames-supply-requires-clause-may
@@ -30,3 +30,9 @@ leave-requires-clause-entry g c =
       c.frames-supply.ensures.journal ∙ ap (λ n. journal ++ (n, entry) ∷ []) (sym c.requires.seat)
           ∙ sym (ap (λ (h : HeldView SupplyStart SupplyEntry). h.journal ++ (h.number, entry) ∷ []) c.enter-held.ensures.held),
     )
+
+pub returns-clause-fits : goal.returns-clause-fits
+returns-clause-fits g c =
+    let value = c.enter-held.result.1 in
+    found_by_pass c.args.params.now.zone value.opened value.shares.items value.supply c.args.pass c.requires.seat c.enter-held.ensures.base c.enter-held.ensures.own
+    (λ start own. IfOk c.frames-supply.result.1 (λ frames. frames_held own + c.args.params.now.pages ≤ start.frames)) c.frames-supply.ensures.fits

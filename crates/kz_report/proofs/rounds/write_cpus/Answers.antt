@@ -9,6 +9,11 @@ use Rattle.kz_report.proofs.Reportable.{has_section, section_written}
 use Rattle.kz_bundle.proofs.Zoned.{planned_is_valid}
 use Rattle.kz_report.proofs.rounds.write_cpus.Goals as goal
 
+pub bounds-as_slice-cpu : goal.bounds-as_slice-cpu
+bounds-as_slice-cpu c =
+    let traces = (planned_is_valid c.requires.record.planned).traces in
+    omega (arith, traces, c.loop-cpu-test.true, ap length c.as_slice.ensures)
+
 pub write_rounds-requires-clause-replies : goal.write_rounds-requires-clause-replies
 write_rounds-requires-clause-replies c =
     let cpu = c.loop-cpu.cpu in

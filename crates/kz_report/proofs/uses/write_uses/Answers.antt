@@ -8,14 +8,14 @@ use Rattle.kz_report.proofs.Reportable.{has_section}
 use Rattle.kz_report.proofs.Tally.{use_is, uses_long}
 use Rattle.kz_report.proofs.uses.write_uses.Goals as goal
 
-pub uses_of-uses-requires-clause-traces : goal.uses_of-uses-requires-clause-traces
-uses_of-uses-requires-clause-traces c = (planned_is_valid c.requires.planned).traces
+pub uses_of-requires-clause-traces : goal.uses_of-requires-clause-traces
+uses_of-requires-clause-traces c = (planned_is_valid c.requires.planned).traces
 
-pub uses_of-uses-requires-clause-cpus : goal.uses_of-uses-requires-clause-cpus
-uses_of-uses-requires-clause-cpus c = (planned_is_valid c.requires.planned).few_cpus
+pub uses_of-requires-clause-cpus : goal.uses_of-requires-clause-cpus
+uses_of-requires-clause-cpus c = (planned_is_valid c.requires.planned).few_cpus
 
-pub uses_of-uses-requires-clause-few : goal.uses_of-uses-requires-clause-few
-uses_of-uses-requires-clause-few c = short_traces c.args.bundle.now (planned_is_valid c.requires.planned)
+pub uses_of-requires-clause-few : goal.uses_of-requires-clause-few
+uses_of-requires-clause-few c = short_traces c.args.bundle.now (planned_is_valid c.requires.planned)
 
 pub index-requires : goal.index-requires
 index-requires c = omega (arith, c.loop-of-test.true, c.len-of-end.ensures, c.in_ok-uses.uses.ok.0, uses_long c.args.bundle.now c.args.made.now.replies c.args.bundle.now.cpus (length c.args.bundle.now.types) c.in_ok-uses.uses.items c.in_ok-uses.ensures)

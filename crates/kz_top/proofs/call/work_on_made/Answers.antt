@@ -1,5 +1,5 @@
 -- What was made of the number is what the command takes.
-use Rattle.std.proofs.Common.{ℕ, List, refl, ap, ◌∙◌, arith, length}
+use Rattle.std.proofs.Common.{refl, arith}
 use Rattle.kz_top.specs.declared.command.Command.TheVariants as command
 use Rattle.kz_top.proofs.Outcomes.{work_finished}
 use Rattle.kz_top.proofs.call.work_on_made.Goals as goal

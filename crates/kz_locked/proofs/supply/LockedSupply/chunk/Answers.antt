@@ -2,10 +2,12 @@ use Rattle.std.proofs.Common.{◌<◌, ◌≤◌, ◌^◌, length, sym, ◌∙�
 use Rattle.kz_model.specs.declared.supply.SupplyEntry.{SupplyEntry}
 use Rattle.kz_supply.specs.Exchange.{chunk_answer}
 use Rattle.kz_supply.specs.Exchange.{ask_for_chunk as ask_of}
+use Rattle.kz_supply.specs.Supply.{stock_of}
 use Rattle.kz_supply.specs.Thin.{ThinSupply}
 use Rattle.kz_locked.specs.Shares.{IsShared}
 use Rattle.kz_locked.specs.Supply.{start_of, entries_since}
 use Rattle.kz_locked.proofs.Shares.{room_for_entry, made_for_ask, shared_after_ask, chunk_entry}
+use Rattle.kz_locked.proofs.Grants.{chunk_fits, chunk_below}
 use Rattle.kz_locked.proofs.Since.{start_same, since_more, since_short, still_since}
 use Rattle.kz_locked.proofs.supply.LockedSupply.chunk.Goals as goal
 
@@ -41,3 +43,14 @@ returns-clause-journal c =
     let p = c.args.params.now in
     let entry : SupplyEntry = record { zone = p.zone; ask = ask_of p; answer = chunk_answer c.chunk-granted.result } in
     ap (λ (s : ThinSupply). entries_since c.args.self.opened s) c.chunk-granted.ensures.logged ∙ since_more c.args.self.opened c.args.self.supply entry c.args.self.since
+
+pub returns-clause-fits : goal.returns-clause-fits
+returns-clause-fits c =
+    let p = c.args.params.now in
+    chunk_fits c.args.self.shares.items c.args.self.supply p.zone p.submap p.pages c.chunk-granted.result c.args.self.kept c.requires.zone c.chunk-granted.ensures.answer
+
+pub returns-clause-below : goal.returns-clause-below
+returns-clause-below c =
+    let p = c.args.params.now in
+    let s = c.args.self.supply.counted in
+    chunk_below s.pages (stock_of s) p.submap p.pages c.chunk-granted.result c.requires.some c.chunk-granted.ensures.answer

@@ -2,10 +2,12 @@ use Rattle.std.proofs.Common.{◌<◌, ◌≤◌, ◌^◌, length, sym, ◌∙�
 use Rattle.kz_model.specs.declared.supply.SupplyEntry.{SupplyEntry}
 use Rattle.kz_supply.specs.Exchange.{frames_answer}
 use Rattle.kz_supply.specs.Exchange.{ask_for_frames as ask_of}
+use Rattle.kz_supply.specs.Supply.{stock_of}
 use Rattle.kz_supply.specs.Thin.{ThinSupply}
 use Rattle.kz_locked.specs.Shares.{IsShared}
 use Rattle.kz_locked.specs.Supply.{start_of, entries_since}
 use Rattle.kz_locked.proofs.Shares.{room_for_entry, made_for_ask, shared_after_ask, frames_entry}
+use Rattle.kz_locked.proofs.Grants.{frames_fit, frames_refused}
 use Rattle.kz_locked.proofs.Since.{start_same, since_more, since_short, still_since}
 use Rattle.kz_locked.proofs.supply.LockedSupply.frames.Goals as goal
 
@@ -41,3 +43,13 @@ returns-clause-journal c =
     let p = c.args.params.now in
     let entry : SupplyEntry = record { zone = p.zone; ask = ask_of p; answer = frames_answer c.frames-given.result } in
     ap (λ (s : ThinSupply). entries_since c.args.self.opened s) c.frames-given.ensures.logged ∙ since_more c.args.self.opened c.args.self.supply entry c.args.self.since
+
+pub returns-clause-fits : goal.returns-clause-fits
+returns-clause-fits c =
+    let p = c.args.params.now in
+    frames_fit c.args.self.shares.items c.args.self.supply p.zone p.pages c.frames-given.result c.args.self.kept c.requires.zone c.frames-given.ensures.answer
+
+pub returns-clause-space : goal.returns-clause-space
+returns-clause-space c =
+    let s = c.args.self.supply.counted in
+    frames_refused s.pages (stock_of s) c.args.params.now.pages c.frames-given.result c.frames-given.ensures.answer

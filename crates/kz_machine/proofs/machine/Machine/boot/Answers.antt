@@ -35,6 +35,9 @@ entries_of-entries-requires c =
     let are = entries_are b plan in
     omega arith
 
+pub overflow_cast-names : goal.overflow_cast-names
+overflow_cast-names c = omega (arith, c.len-names.ensures, (planned_is_valid c.requires).few_names)
+
 pub cpus_of-requires-clause-fit : goal.cpus_of-requires-clause-fit
 cpus_of-requires-clause-fit c =
     let b = c.args.bundle.now in

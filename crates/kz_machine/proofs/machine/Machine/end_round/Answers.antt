@@ -6,8 +6,15 @@ use Rattle.kz_cpu.specs.Cpu.{Cpu}
 use Rattle.kz_machine.specs.declared.machine.Machine.TheView.{view}
 use Rattle.kz_machine.specs.Settling.{AreSettled}
 use Rattle.kz_machine.proofs.Inside.{inside_at}
-use Rattle.kz_machine.proofs.RoundEnds.{none_settled, round_keeps}
+use Rattle.kz_machine.proofs.RoundEnds.{none_settled, round_keeps, rounds_few}
 use Rattle.kz_machine.proofs.machine.Machine.end_round.Goals as goal
+
+pub overflow_add-self : goal.overflow_add-self
+overflow_add-self c =
+    let i = c.self.inside in
+    let h = c.requires in
+    let here = inside_at i _ h.0 h.1 h.2 c.self.view_is h.3 in
+    omega (arith, rounds_few (view i) h.0 h.1 h.2 here h.4)
 
 pub returns : goal.returns
 returns c b plan s at end =
