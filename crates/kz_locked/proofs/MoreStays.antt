@@ -3,6 +3,8 @@ use Rattle.std.proofs.Common.{◌≡◌, ℕ, Bool, ◌&&◌, ◌+◌, ◌^◌, 
 use Rattle.std.proofs.Math.Logic.{∥∥₁_elim}
 use Rattle.std.proofs.Math.Seq.{take-add}
 use Rattle.std.proofs.Props.{props}
+use native.Mathlib.Bridge.{le_prop}
+use mathlib.Core.HLevel.{×₃_prop}
 use Rattle.std.specs.Option.{unwrap_or}
 use Rattle.std.specs.List.{filter}
 use Rattle.std.proofs.lemmas.Grind.{flat_map-append}
@@ -13,6 +15,7 @@ use Rattle.kz_model.specs.declared.record.Plan.{Plan}
 use Rattle.kz_model.specs.declared.record.Room.{Room}
 use Rattle.kz_model.specs.declared.record.Visit.{Visit}
 use Rattle.kz_model.specs.declared.record.ZoneParams.{ZoneParams}
+use Rattle.kz_model.specs.declared.step.Bound.{Bound}
 use Rattle.kz_model.specs.declared.step.Reply.{Reply}
 use Rattle.kz_model.specs.declared.step.Step.{Step}
 use Rattle.kz_model.specs.declared.supply.Answer.{Answer}
@@ -22,7 +25,7 @@ use Rattle.kz_model.specs.Zone.Alone.{Course, alone, course}
 use Rattle.kz_model.specs.Zone.State.{CpuPart, ZoneState, opening, cpu_part}
 use Rattle.kz_model.specs.Zone.Late.{NeedNone}
 use Rattle.kz_model.specs.Zone.Rules.{needs_visit}
-use Rattle.kz_model.specs.Zone.Whole.{IsWhole}
+use Rattle.kz_model.specs.Zone.Whole.{IsWhole, Rises, AreWithin}
 use Rattle.kz_supply.specs.Exchange.{Exchange}
 use Rattle.kz_supply.specs.Ready.{Ready}
 use Rattle.kz_zone.specs.Room.{IsFitRoom}
@@ -184,6 +187,30 @@ parts_known opened b plan book pages held pass kept base own =
           ∙ ap (λ (own : List Stay). part_left (part_left opens (stays_by n first)) own) mine
           ∙ ap (λ (start : ZoneStart). part_left (part_left (cpu_part (opening (params_of start.bundle start.plan start.zone)) n) (stays_by n start.stays)) pass.own) base;
     }
+
+rises-prop : (low high : ℕ) (numbers : List ℕ) → IsProp (Rises low high numbers)
+rises-prop low high [] = hlevel props
+rises-prop low high (i ∷ numbers) = ×₃_prop le_prop (hlevel props) (rises-prop (i + 1) high numbers)
+
+within-prop : (p : ZoneParams) (chunks : ℕ) (names : List (ℕ × Bound)) → IsProp (AreWithin p chunks names)
+within-prop p chunks [] = hlevel props
+within-prop p chunks (entry ∷ names) = ×₃_prop le_prop (hlevel props) (within-prop p chunks names)
+
+-- the same of a zone that is known to be locked and no more
+pub part_found : (opened : ℕ) (b : Bundle) (plan : Plan) (book : Book) (pages : Ready) (held : SupplyPass) (pass : PassView ZoneStart Stay) → ∥ IsLockedZone b plan book pages held ∥₁ →
+    zone_start opened b plan book held ≡ pass.base → entries_of pass.number (stays_since opened b plan book.visits held) ≡ pass.own → FindsPart b plan book held pass
+part_found opened b plan book pages held pass kept base own = ∥∥₁_elim kept (hlevel (rises-prop, within-prop, props)) (λ kept. parts_known opened b plan book pages held pass kept base own)
+
+-- a CPU's own stays carry all its steps
+pub carried-own : (cpu round : ℕ) (stays : List Stay) → carried cpu round (visits_in (stays_by cpu stays)) ≡ carried cpu round (visits_in stays)
+carried-own cpu round [] = refl
+carried-own cpu round (s ∷ stays) =
+    let rest = carried cpu round (visits_in (stays_by cpu stays)) in
+    let own = carried-own cpu round stays in
+    elim (s.cpu == cpu) as (λ t. (s.cpu == cpu) ≡ t → carried cpu round (visits_in (if t then s ∷ stays_by cpu stays else stays_by cpu stays)) ≡ (if t && (s.round == round) then length s.steps else 0) + carried cpu round (visits_in stays)) [
+      | true ↦ λ e. ap (λ t. (if t && (s.round == round) then length s.steps else 0) + rest) e ∙ ap (λ n. (if s.round == round then length s.steps else 0) + n) own
+      | false ↦ λ e. own ∙ sym (zero-add (carried cpu round (visits_in stays)))
+    ] refl
 
 -- ---- the base and the journal
 

@@ -142,7 +142,7 @@ pub record FindsPart (b : Bundle) (plan : Plan) (book : Book) (held : SupplyPass
 abbrev pub PassesKnowParts : Type 0
 PassesKnowParts =
     (opened : ℕ) (b : Bundle) (plan : Plan) (book : Book) (pages : Ready) (held : SupplyPass)
-    (pass : PassView ZoneStart Stay) → IsLockedZone b plan book pages held →
+    (pass : PassView ZoneStart Stay) → ∥ IsLockedZone b plan book pages held ∥₁ →
     zone_start opened b plan book held ≡ pass.base →
     entries_of pass.number (stays_since opened b plan book.visits held) ≡ pass.own →
     FindsPart b plan book held pass

@@ -4,9 +4,9 @@
 //! kz_turn, and the program doesn't use it yet.
 //!
 //! Contract: a zone that knows its own entries and its share of the supply may ask, whatever other zones did meanwhile;
-//! the answer is the supply's, and the pass knows the entry (`ask_for_chunk`, `ask_for_frames`, `give_back`). A zone behind
-//! its turn tells the stays that led to it (`LockedZone`); it still does after one more, and the pass of a CPU knows what
-//! the CPU has there (`one_more_stay_is_kept`, `passes_know_parts`).
+//! the answer is the supply's, and the pass knows the entry (`ask_for_chunk`, `ask_for_frames`, `give_back`). A zone
+//! behind its turn tells the stays that led to it (`LockedZone`). It still does after one more
+//! (`one_more_stay_is_kept`), and the pass of a CPU knows what the CPU has there (`passes_know_parts`).
 #![tactic(auto)]
 
 mod laws;
