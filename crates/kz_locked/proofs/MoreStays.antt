@@ -141,13 +141,16 @@ module _ (b : Bundle) (plan : Plan) (old new : Book) (idle pages : Ready) (pass 
   more : GoesOn b plan old new pages pass later s → HasOneMore b plan old new pages pass later s
   unfolding more_kept
   more on = record {
-    kept = more_kept on;
+    kept = ∣ more_kept on ∣₁;
     stays = told_is b plan new pages later (more_kept on) ∙ ap (λ (stays : List Stay). stays ++ s ∷ []) (sym (told_is b plan old idle pass kept));
   }
 
-pub one_more_stay : (b : Bundle) (plan : Plan) (old new : Book) (idle pages : Ready) (pass after : SupplyPass) (s : Stay) → IsLockedZone b plan old idle pass → GoesOn b plan old new pages pass after s → HasOneMore b plan old new pages pass after s
+one_more-prop : (b : Bundle) (plan : Plan) (old new : Book) (pages : Ready) (pass after : SupplyPass) (s : Stay) → IsProp (HasOneMore b plan old new pages pass after s)
+one_more-prop b plan old new pages pass after s = hlevel props
+
+pub one_more_stay : (b : Bundle) (plan : Plan) (old new : Book) (idle pages : Ready) (pass after : SupplyPass) (s : Stay) → ∥ IsLockedZone b plan old idle pass ∥₁ → GoesOn b plan old new pages pass after s → HasOneMore b plan old new pages pass after s
 one_more_stay b plan old new idle pages pass after s kept on =
-    subst (λ (after : SupplyPass). GoesOn b plan old new pages pass after s → HasOneMore b plan old new pages pass after s) (sym on.pass_is) (more b plan old new idle pages pass s kept) on
+    ∥∥₁_elim kept (one_more-prop b plan old new pages pass after s) (λ kept. subst (λ (after : SupplyPass). GoesOn b plan old new pages pass after s → HasOneMore b plan old new pages pass after s) (sym on.pass_is) (more b plan old new idle pages pass s kept) on)
 
 -- ---- what a pass knows
 
@@ -259,11 +262,13 @@ module _ (b : Bundle) (plan : Plan) (old new : Book) (idle pages : Ready) (pass 
       new.room.params ≡ q → cpu < q.cpus → NeedNone q own recent → needs_visit q (own_in q before cpu recent) step ≡ true → Extends q cpu before last recent step reply exchanges →
       LeadsTo q before last (stay_of_visit q round cpu own recent step reply exchanges (cpu_part last.made.end cpu))
 
-  pub visit_goes_on : IsLockedZone b plan old idle pass → (visit : HasVisit b plan old new pages pass after round cpu recent step reply exchanges) → GoesOn b plan old new pages pass after (stay_at b plan old pass round cpu recent step reply exchanges visit.last)
+  pub visit_goes_on : ∥ IsLockedZone b plan old idle pass ∥₁ → (visit : HasVisit b plan old new pages pass after round cpu recent step reply exchanges) → GoesOn b plan old new pages pass after (stay_at b plan old pass round cpu recent step reply exchanges visit.last)
   visit_goes_on kept visit =
+      let known : KeepsHistory old before × (old.room.params ≡ params_of b plan pass.number) = ∥∥₁_elim kept (hlevel (rises-prop, within-prop, props)) (λ kept.
       let h = history_of b plan old idle pass kept in
-      let first : KeepsHistory old before = subst (KeepsHistory old) (sym h.is_told) h.keeps in
-      let same : new.room.params ≡ params_of b plan pass.number = ap (λ (room : Room). room.params) visit.room ∙ kept.params in
+      (subst (KeepsHistory old) (sym h.is_told) h.keeps, kept.params)) in
+      let first = known.0 in
+      let same : new.room.params ≡ params_of b plan pass.number = ap (λ (room : Room). room.params) visit.room ∙ known.1 in
       let count : length recent + 1 ≡ length (recent ++ step ∷ []) = sym (length-append recent (step ∷ [])) in
       let at : ℕ → Visit = λ count. record { round = round; cpu = cpu; count = count; settled = false } in
       record {
@@ -277,7 +282,7 @@ module _ (b : Bundle) (plan : Plan) (old new : Book) (idle pages : Ready) (pass 
         steps = ap (λ n. steps_told b plan pass.number old.visits (at n)) (sym count) ∙ visit.steps;
         last = visit.last;
         keeps = visit.keeps;
-        leads = subst (Leads visit.last) kept.params (λ same lt none needs extends. visits_are_stays old new before visit.last round cpu recent step reply exchanges same lt first visit.keeps none needs extends) same visit.one_of visit.none visit.needs visit.extends;
+        leads = subst (Leads visit.last) known.1 (λ same lt none needs extends. visits_are_stays old new before visit.last round cpu recent step reply exchanges same lt first visit.keeps none needs extends) same visit.one_of visit.none visit.needs visit.extends;
       }
 
 -- ---- a settled visit

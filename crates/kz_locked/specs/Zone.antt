@@ -114,13 +114,13 @@ pub record GoesOn (b : Bundle) (plan : Plan) (old new : Book) (pages : Ready) (p
 -- A locked zone stays one with one more stay, and tells one more.
 pub record HasOneMore (b : Bundle) (plan : Plan) (old new : Book) (pages : Ready) (pass after : SupplyPass)
     (s : Stay) : Type 0 where
-  pub kept : IsLockedZone b plan new pages after
+  pub kept : ∥ IsLockedZone b plan new pages after ∥₁
   pub stays : stays_of b plan new.visits after ≡ stays_of b plan old.visits pass ++ s ∷ []
 
 abbrev pub OneMoreStayIsKept : Type 0
 OneMoreStayIsKept =
     (b : Bundle) (plan : Plan) (old new : Book) (idle pages : Ready) (pass after : SupplyPass) (s : Stay) →
-    IsLockedZone b plan old idle pass → GoesOn b plan old new pages pass after s →
+    ∥ IsLockedZone b plan old idle pass ∥₁ → GoesOn b plan old new pages pass after s →
     HasOneMore b plan old new pages pass after s
 
 -- ---- what a CPU's pass knows
@@ -182,7 +182,7 @@ abbrev pub VisitsGoOn : Type 0
 VisitsGoOn =
     (b : Bundle) (plan : Plan) (old new : Book) (idle pages : Ready) (pass after : SupplyPass) (round cpu : ℕ)
     (recent : List Step) (step : Step) (reply : Reply) (exchanges : List Exchange) →
-    IsLockedZone b plan old idle pass →
+    ∥ IsLockedZone b plan old idle pass ∥₁ →
     (visit : HasVisit b plan old new pages pass after round cpu recent step reply exchanges) →
     GoesOn b plan old new pages pass after
     (stay_at b plan old pass round cpu recent step reply exchanges visit.last)
