@@ -27,7 +27,7 @@ use Rattle.kz_model.specs.Zone.Late.{NeedNone}
 use Rattle.kz_model.specs.Zone.Rules.{needs_visit}
 use Rattle.kz_model.specs.Zone.Whole.{IsWhole, Rises, AreWithin}
 use Rattle.kz_supply.specs.Exchange.{Exchange}
-use Rattle.kz_supply.specs.Ready.{Ready}
+use Rattle.kz_supply.specs.Ready.{Ready, NoAnswer}
 use Rattle.kz_zone.specs.Room.{IsFitRoom}
 use Rattle.kz_zone.specs.Zone.{StandsFor}
 use Rattle.kz_book.specs.Book.{Book, History, KeepsHistory}
@@ -299,24 +299,27 @@ module _ (b : Bundle) (plan : Plan) (old new : Book) (pages : Ready) (pass : Sup
       new.room.params ≡ q → cpu < q.cpus → NeedNone q part recent → Settles q cpu told last recent →
       LeadsTo q told last (stay_of_settling q round cpu part recent (cpu_part last.made.end cpu))
 
-  pub settling_goes_on : IsLockedZone b plan old pages pass → (settling : HasSettling b plan old new pass round cpu recent) →
+  pub settling_goes_on : ∥ IsLockedZone b plan old pages pass ∥₁ → (settling : HasSettling b plan old new pass round cpu recent) →
       GoesOn b plan old new pages pass pass (stay_of_settling (params_of b plan pass.number) round cpu part recent (cpu_part settling.last.made.end cpu))
   settling_goes_on kept settling =
+      let p = params_of b plan pass.number in
+      let known : KeepsHistory old told × (old.room.params ≡ p) × (pages.params ≡ p) × (pages.ready ≡ NoAnswer) × (pages.waiting ≡ []) = ∥∥₁_elim kept (hlevel (rises-prop, within-prop, props)) (λ kept.
       let h = history_of b plan old pages pass kept in
-      let first : KeepsHistory old told = subst (KeepsHistory old) (sym h.is_told) h.keeps in
-      let same : new.room.params ≡ params_of b plan pass.number = ap (λ (room : Room). room.params) settling.room ∙ kept.params in
+      (subst (KeepsHistory old) (sym h.is_told) h.keeps, kept.params, kept.pages_params, kept.idle, kept.none_wait)) in
+      let first = known.0 in
+      let same : new.room.params ≡ p = ap (λ (room : Room). room.params) settling.room ∙ known.1 in
       record {
         pass_is = ap (λ (own : List SupplyEntry). record { name = pass.name; number = pass.number; base = pass.base; own = own }) (sym (append-nil pass.own));
-        pages_params = kept.pages_params;
-        idle = kept.idle;
-        none_wait = kept.none_wait;
+        pages_params = known.2;
+        idle = known.3;
+        none_wait = known.4;
         room = settling.room;
         visits = settling.visits;
         few = settling.few;
         steps = settling.steps;
         last = settling.last;
         keeps = settling.keeps;
-        leads = subst (LeadsLate settling.last) kept.params (λ same lt none settles. settlings_are_stays old new told settling.last round cpu recent same lt first settling.keeps settling.some none settles) same settling.one_of settling.none settling.settles;
+        leads = subst (LeadsLate settling.last) known.1 (λ same lt none settles. settlings_are_stays old new told settling.last round cpu recent same lt first settling.keeps settling.some none settles) same settling.one_of settling.none settling.settles;
       }
 
 -- ---- the lines that stays carry

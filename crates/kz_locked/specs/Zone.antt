@@ -205,7 +205,7 @@ pub record HasSettling (b : Bundle) (plan : Plan) (old new : Book) (pass : Suppl
 abbrev pub SettlingsGoOn : Type 0
 SettlingsGoOn =
     (b : Bundle) (plan : Plan) (old new : Book) (pages : Ready) (pass : SupplyPass) (round cpu : ℕ)
-    (recent : List Step) → IsLockedZone b plan old pages pass →
+    (recent : List Step) → ∥ IsLockedZone b plan old pages pass ∥₁ →
     (settling : HasSettling b plan old new pass round cpu recent) →
     GoesOn b plan old new pages pass pass
     (stay_of_settling (params_of b plan pass.number) round cpu
