@@ -3,3 +3,4 @@ pub mod Grants
 pub mod Shares
 pub mod Since
 pub mod Visits
+pub mod MoreStays

@@ -1,0 +1,15 @@
+-- What stands for the name of a turn where there is none.
+use Rattle.std.specs.Prelude.{[]}
+use Rattle.atomic_table.specs.Seated.{TableId}
+
+abbrev pub no_name : TableId
+no_name = record {
+  words = 0;
+  slots = 0;
+  views_name = 0;
+  atom = 0;
+  block = 0;
+  offset = 0;
+  slot_names =
+      [];
+}
