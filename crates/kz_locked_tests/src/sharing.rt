@@ -2,11 +2,11 @@
 ghost use Rattle.std.specs.Prelude.{◌≡◌, ◌<◌, [], IfOk};
 ghost use Rattle.kz_turn.specs.Turns.{turn_name};
 ghost use Rattle.kz_locked.specs.Supply.{start_of, entries_since};
-ghost use Rattle.kz_locked_tests.specs.Sharing.{start};
+ghost use Rattle.kz_locked_tests.specs.Sharing.{start, unused};
 
-use kz_locked::{LockedSupply, Share, ask_for_frames, give_back};
+use kz_locked::{LockedSupply, Share, hand_back, make_ready};
 use kz_model::{Answer, Ask, Seed, ZoneParams};
-use kz_supply::ThinSupply;
+use kz_supply::{Pages, ReadyPages, ThinSupply, Want};
 use kz_turn::{Pass, Turn};
 use kz_turn_tests::seats::{close_two, open_two};
 use std::alloc::{AllocError, Global};
@@ -16,7 +16,7 @@ use std::thread::{Threads, join};
 
 fn params(zone: u32) -> ZoneParams
     ensures zone { result.zone ≡ zone }
-    ensures pages { result.pages ≡ 4 }
+    ensures size { (result.pages ≡ 4) × (result.submap ≡ 1) }
 {
     ZoneParams {
         zone,
@@ -35,18 +35,25 @@ fn work<R: Wait>(
     rt: &R,
     turn: &Turn<LockedSupply>,
     pass: Pass<LockedSupply>,
-    zone: u32,
+    params: &ZoneParams,
+    pages: ReadyPages,
 ) -> Pass<LockedSupply>
     requires turn { pass.name ≡ turn_name turn.now }
-    requires seat { pass.number ≡ zone }
-    requires zone { zone < 2 }
+    requires seat { pass.number ≡ params.now.zone }
+    requires zone { params.now.zone < 2 }
+    requires size { (params.now.pages ≡ 4) × (params.now.submap ≡ 1) }
     requires base { pass.base ≡ start }
     requires fresh { pass.own ≡ [] }
+    requires pages { pages ≡ unused params.now 1 }
     ensures seat { (result.name ≡ pass.name) × (result.number ≡ pass.number) × (result.base ≡ pass.base) }
 {
-    let (pass, given) = ask_for_frames(rt, turn, pass, &params(zone));
-    match given {
-        Ok(frames) => give_back(rt, turn, pass, zone, frames),
+    let mut pages = pages;
+    let pass = make_ready(rt, turn, pass, params, Want::Frames, &mut pages);
+    match pages.frames() {
+        Ok(frames) => {
+            pages.back(frames);
+            hand_back(rt, turn, pass, params, &mut pages)
+        }
         Err(_) => pass,
     }
 }
@@ -68,7 +75,14 @@ fn opened(alloc: Global) -> Result<LockedSupply, AllocError>
 
 fn both<R: Threads + Wait + Sync>(rt: &R, alloc: Global) -> Result<ThinSupply, AllocError> {
     let (turn, zero, one) = open_two(alloc, opened(alloc)?)?;
-    let (zero, one) = join(rt, || work(rt, &turn, zero, 0), || work(rt, &turn, one, 1));
+    let (first, second) = (params(0), params(1));
+    let first_pages = ReadyPages::new(alloc, &first, 1)?;
+    let second_pages = ReadyPages::new(alloc, &second, 1)?;
+    let (zero, one) = join(
+        rt,
+        || work(rt, &turn, zero, &first, first_pages),
+        || work(rt, &turn, one, &second, second_pages),
+    );
     Ok(close_two(alloc, turn, zero, one)?.into_parts().0)
 }
 
